@@ -1,0 +1,216 @@
+-- The grid's definitions by cases, and directions there and back.
+-- Assumes nothing.
+use mathlib.Core.Path.{_≡_, refl, sym, ap, _∙_, subst}
+use mathlib.Core.Bool.{Bool, true, false, cond, not, true≢false}
+use mathlib.Core.List.{List, [], _∷_, map}
+use mathlib.Core.Option.{Option, none, some}
+use Prim.Native.Nat.{ℕ, zero, suc, _+_, _*_, _/_, _%_, _≤_, _<_}
+use native.Mathlib.Nat.{div-add-mod', mod-lt, div-lt-iff-lt-mul}
+use native.Mathlib.Omega.{arith}
+use native.Mathlib.Decide.{decLt}
+use lib.ListN.{getD}
+use lib.Arith.{digits-div, digits-mod, digits-lt}
+use lib.Dec.{eqb, ltb}
+use borrow.Author.Tests.{eqb-true, eq-eqb, ltb-true, lt-ltb, le-ltb}
+use Rattle.ground.specs.Lists.{sumOf}
+use Rattle.ground.specs.Compass.{Dir, E, SE, S, SW, W, NW, N, NE, dirs, placeOf, codeOf, findDir, dirOf, pointsIn, opposite, Shift, less, as-is, more, shifted, rowShift, colShift}
+use Rattle.ground.specs.Grid.{Grid, Link, cellAt, places, codeAt, ground, neighbour, flow, onto, along, next, inflowRecord, inflowsFrom, inflows}
+use Rattle.ground.specs.Accumulation.{gathered, balance, subaccumulation}
+use Rattle.ground.specs.Lists.{member}
+
+-- THE ORDER: `dirs` is the order of `placeOf`, and both are E, SE, S, SW, W, NW, N, NE
+pub dirs-in-order : map placeOf dirs ≡ 0 ∷ 1 ∷ 2 ∷ 3 ∷ 4 ∷ 5 ∷ 6 ∷ 7 ∷ []
+dirs-in-order = refl
+
+pub opposite-twice : (d : Dir) → opposite (opposite d) ≡ d
+opposite-twice E = refl
+opposite-twice SE = refl
+opposite-twice S = refl
+opposite-twice SW = refl
+opposite-twice W = refl
+opposite-twice NW = refl
+opposite-twice N = refl
+opposite-twice NE = refl
+
+-- a direction is found by its code
+pub dir-code : (d : Dir) → dirOf (codeOf d) ≡ some d
+unfolding dirOf
+dir-code E = refl
+dir-code SE = refl
+dir-code S = refl
+dir-code SW = refl
+dir-code W = refl
+dir-code NW = refl
+dir-code N = refl
+dir-code NE = refl
+
+-- and only by it
+find-code : (ds : List Dir) (code : ℕ) (d : Dir) → findDir ds code ≡ some d → code ≡ codeOf d
+find-code [] code d e = let w : _≡_ {A = ℕ} 0 1 = cc in absurd (omega arith)
+find-code (f ∷ ds) code d e = go (eqb (codeOf f) code) refl (find-code ds code d)
+  where
+    go : (b : Bool) → eqb (codeOf f) code ≡ b → (findDir ds code ≡ some d → code ≡ codeOf d) → code ≡ codeOf d
+    go true h ih = let p : some f ≡ some d = sym (rw h) ∙ e in let q : f ≡ d = cc in sym (eqb-true (codeOf f) code h) ∙ ap codeOf q
+    go false h ih = ih (sym (rw h) ∙ e)
+
+pub dir-is : (code : ℕ) (d : Dir) → dirOf code ≡ some d → code ≡ codeOf d
+unfolding dirOf
+dir-is code d e = find-code dirs code d e
+
+pub null-dir : dirOf 0 ≡ none
+unfolding dirOf
+null-dir = refl
+
+-- codes tell directions apart
+pub code-dir : (d e : Dir) → codeOf d ≡ codeOf e → d ≡ e
+code-dir d e h = let p : some d ≡ some e = sym (dir-code d) ∙ ap dirOf h ∙ dir-code e in cc
+
+-- a shift taken back
+abbrev back : Shift → Shift
+back less = more
+back as-is = as-is
+back more = less
+
+row-back : (d : Dir) → rowShift (opposite d) ≡ back (rowShift d)
+row-back E = refl
+row-back SE = refl
+row-back S = refl
+row-back SW = refl
+row-back W = refl
+row-back NW = refl
+row-back N = refl
+row-back NE = refl
+
+col-back : (d : Dir) → colShift (opposite d) ≡ back (colShift d)
+col-back E = refl
+col-back SE = refl
+col-back S = refl
+col-back SW = refl
+col-back W = refl
+col-back NW = refl
+col-back N = refl
+col-back NE = refl
+
+record Shifted (s : Shift) (bound x y : ℕ) : Type 0 where
+  within : y < bound
+  undone : shifted (back s) bound y ≡ some x
+
+shifted-back : (s : Shift) (bound x y : ℕ) → x < bound → shifted s bound x ≡ some y → Shifted s bound x y
+shifted-back less bound zero y h e = let w : _≡_ {A = ℕ} 0 1 = cc in absurd (omega arith)
+shifted-back less bound (suc x) y h e = let q : x ≡ y = cc in record { within = omega arith; undone = rw (lt-ltb (suc y) bound (omega arith)) (ap (λ (z : ℕ). some (suc z)) (sym q)) }
+shifted-back as-is bound x y h e = let q : x ≡ y = cc in record { within = omega arith; undone = ap some (sym q) }
+shifted-back more bound x y h e = go (ltb (suc x) bound) refl
+  where
+    go : (b : Bool) → ltb (suc x) bound ≡ b → Shifted more bound x y
+    go true f =
+        let q : some (suc x) ≡ some y = sym (rw f) ∙ e in
+        let r : suc x ≡ y = cc in
+        record { within = omega (arith, ltb-true (suc x) bound f); undone = subst (λ (z : ℕ). shifted less bound z ≡ some x) r refl }
+    go false f = let q : none ≡ some y = sym (rw f) ∙ e in let w : _≡_ {A = ℕ} 0 1 = cc in absurd (omega arith)
+
+-- what a cell number is made of
+record CellIs (cols : ℕ) (a b : Option ℕ) (y : ℕ) : Type 0 where
+  row : ℕ
+  col : ℕ
+  is-row : a ≡ some row
+  is-col : b ≡ some col
+  is-cell : row * cols + col ≡ y
+
+cell-is : (cols : ℕ) (a b : Option ℕ) (y : ℕ) → cellAt cols a b ≡ some y → CellIs cols a b y
+cell-is cols none b y e = let w : _≡_ {A = ℕ} 0 1 = cc in absurd (omega arith)
+cell-is cols (some r) none y e = let w : _≡_ {A = ℕ} 0 1 = cc in absurd (omega arith)
+cell-is cols (some r) (some c) y e = record { row = r; col = c; is-row = refl; is-col = refl; is-cell = cc }
+
+module _ (g : Grid) where
+  pub code-inside : (x : ℕ) → x < places g → codeAt g x ≡ getD (g .codes) x 0
+  unfolding codeAt
+  code-inside x h = rw (lt-ltb x (places g) h)
+
+  pub code-outside : (x : ℕ) → places g ≤ x → codeAt g x ≡ 0
+  unfolding codeAt
+  code-outside x h = rw (le-ltb x (places g) h)
+
+  -- ground is within the grid
+  pub ground-within : (x : ℕ) → ground g x ≡ true → x < places g
+  ground-within x v = elim (decLt x (places g)) [ yes h ↦ h | no h ↦ absurd (go (omega arith)) ]
+    where
+      go : places g ≤ x → ⊥
+      go h = true≢false (sym v ∙ ap (λ (c : ℕ). not (eqb c 0)) (code-outside x h))
+
+  -- the neighbour at a known row and column
+  pub neighbour-at : (row col : ℕ) (d : Dir) → col < g .cols → neighbour g (row * g .cols + col) d ≡ cellAt (g .cols) (shifted (rowShift d) (g .rows) row) (shifted (colShift d) (g .cols) col)
+  unfolding neighbour
+  neighbour-at row col d h = rw (digits-div row h, digits-mod row h)
+
+  -- THERE AND BACK
+  pub neighbour-back : (x : ℕ) (d : Dir) (y : ℕ) → x < places g → neighbour g x d ≡ some y → neighbour g y (opposite d) ≡ some x
+  unfolding neighbour
+  neighbour-back x d y h e = subst (λ (z : ℕ). neighbour g z (opposite d) ≡ some x) (j .is-cell)
+      (rw (row-back d, col-back d, digits-div (j .row) (v .within), digits-mod (j .row) (v .within), u .undone, v .undone) (ap some (div-add-mod' x (g .cols))))
+    where
+      some-cols : 0 < g .cols
+      some-cols = elim (decLt 0 (g .cols)) [ yes k ↦ k | no k ↦ absurd (flat (omega arith)) ]
+        where
+          flat : g .cols ≡ 0 → ⊥
+          flat k = omega (arith, rw k at h)
+
+      j : CellIs (g .cols) (shifted (rowShift d) (g .rows) (x / g .cols)) (shifted (colShift d) (g .cols) (x % g .cols)) y
+      j = cell-is (g .cols) (shifted (rowShift d) (g .rows) (x / g .cols)) (shifted (colShift d) (g .cols) (x % g .cols)) y e
+
+      u : Shifted (rowShift d) (g .rows) (x / g .cols) (j .row)
+      u = shifted-back (rowShift d) (g .rows) (x / g .cols) (j .row) (div-lt-iff-lt-mul some-cols .1 h) (j .is-row)
+
+      v : Shifted (colShift d) (g .cols) (x % g .cols) (j .col)
+      v = shifted-back (colShift d) (g .cols) (x % g .cols) (j .col) (mod-lt x some-cols) (j .is-col)
+
+  -- a cell that flows has ground
+  pub flow-ground : (y : ℕ) (e : Dir) → flow g y ≡ some e → ground g y ≡ true
+  flow-ground y e f = go (eqb (codeAt g y) 0) refl
+    where
+      go : (b : Bool) → eqb (codeAt g y) 0 ≡ b → not b ≡ true
+      go true h = let z : flow g y ≡ none = ap dirOf (eqb-true (codeAt g y) 0 h) ∙ null-dir in cc
+      go false h = refl
+
+  -- a code that points in a direction
+  pub points-flow : (d : Dir) (y : ℕ) → pointsIn d (codeAt g y) ≡ true → flow g y ≡ some d
+  points-flow d y h = ap dirOf (eqb-true (codeAt g y) (codeOf d) h) ∙ dir-code d
+
+  pub flow-points : (d : Dir) (y : ℕ) → flow g y ≡ some d → pointsIn d (codeAt g y) ≡ true
+  flow-points d y f = eq-eqb (codeAt g y) (codeOf d) (dir-is (codeAt g y) d f)
+
+  -- the walk's step by cases
+  pub next-along : (x : ℕ) (d : Dir) → flow g x ≡ some d → next g x ≡ onto g d (neighbour g x d)
+  unfolding next
+  next-along x d e = rw e
+
+  pub next-none : (x : ℕ) → flow g x ≡ none → next g x ≡ none
+  unfolding next
+  next-none x e = rw e
+
+  pub next-is : (y : ℕ) (e : Dir) (x : ℕ) → flow g y ≡ some e → neighbour g y e ≡ some x → ground g x ≡ true → next g y ≡ some (record { cell = x; step = e })
+  next-is y e x f n v = next-along y e f ∙ rw (n, v)
+
+  -- the other definitions by cases
+  pub ground-inflows : (x : ℕ) → ground g x ≡ true → inflows g x ≡ inflowsFrom g dirs x
+  unfolding inflows
+  ground-inflows x v = rw v
+
+  pub null-inflows : (x : ℕ) → ground g x ≡ false → inflows g x ≡ []
+  unfolding inflows
+  null-inflows x v = rw v
+
+  pub ground-sub : (outlets : List ℕ) (x : ℕ) → ground g x ≡ true → subaccumulation g outlets x ≡ gathered (inflows g) (λ c. member c outlets) (places g) x
+  unfolding subaccumulation
+  ground-sub outlets x v = rw v
+
+  pub null-sub : (outlets : List ℕ) (x : ℕ) → ground g x ≡ false → subaccumulation g outlets x ≡ 0
+  unfolding subaccumulation
+  null-sub outlets x v = rw v
+
+  pub ground-balance : (a : List ℕ) (x : ℕ) → ground g x ≡ true → balance g a x ≡ suc (sumOf (inflowRecord g a x))
+  unfolding balance
+  ground-balance a x v = rw v
+
+  pub null-balance : (a : List ℕ) (x : ℕ) → ground g x ≡ false → balance g a x ≡ 0
+  unfolding balance
+  null-balance a x v = rw v

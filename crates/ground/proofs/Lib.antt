@@ -1,0 +1,11 @@
+pub mod Lists
+pub mod Sums
+pub mod Walks
+pub mod Network
+pub mod Agreement
+pub mod Endings
+pub mod Rings
+pub mod Subwatersheds
+pub mod Cells
+pub mod GridNetwork
+pub mod Ground

@@ -1,0 +1,65 @@
+-- The walk's definitions by cases.
+-- Assumes nothing.
+use mathlib.Core.Path.{_≡_, refl}
+use mathlib.Core.Bool.{Bool, true, false}
+use mathlib.Core.List.{List, [], _∷_, _++_, map, reverse, reverse-cons}
+use mathlib.Core.Option.{Option, none, some}
+use Prim.Native.Nat.{ℕ, zero, suc}
+use Rattle.lengths.specs.Lengths.{Lengths}
+use Rattle.ground.specs.Compass.{Dir, opposite}
+use Rattle.ground.specs.Grid.{Link}
+use Rattle.ground.specs.Walk.{At, stride, strides, after, ends}
+use Rattle.ground.specs.Subwatershed.{descent, route}
+
+module _ {S : Type 0} (next : ℕ → Option (Link S)) where
+  pub ends-next : (n x : ℕ) (h : Link S) → next x ≡ some h → ends next (suc n) x ≡ ends next n (h .cell)
+  ends-next n x h e = rw (e, ends)
+
+  pub ends-zero : (x : ℕ) (h : Link S) → next x ≡ some h → ends next zero x ≡ false
+  ends-zero x h e = rw (e, ends)
+
+  pub ends-none : (n x : ℕ) → next x ≡ none → ends next n x ≡ true
+  ends-none zero x e = rw (e, ends)
+  ends-none (suc n) x e = rw (e, ends)
+
+module _ {S : Type 0} (𝓛 : Lengths S) (next : ℕ → Option (Link S)) where
+  open Lengths 𝓛 using (Len, start, _▹_)
+
+  pub stride-next : (w : At Len) (h : Link S) → next (w .cell) ≡ some h → stride 𝓛 next w ≡ some (record { cell = h .cell; len = w .len ▹ h .step })
+  unfolding stride
+  stride-next w h e = rw (e, stride)
+
+  pub stride-end : (w : At Len) → next (w .cell) ≡ none → stride 𝓛 next w ≡ none
+  unfolding stride
+  stride-end w e = rw (e, stride)
+
+  pub strides-next : (k : ℕ) (w : At Len) (h : Link S) → next (w .cell) ≡ some h → strides 𝓛 next (suc k) w ≡ strides 𝓛 next k (record { cell = h .cell; len = w .len ▹ h .step })
+  unfolding strides
+  strides-next k w h e = rw (stride-next w h e, strides)
+
+  pub strides-end : (k : ℕ) (w : At Len) → next (w .cell) ≡ none → strides 𝓛 next (suc k) w ≡ none
+  unfolding strides
+  strides-end k w e = rw (stride-end w e, strides)
+
+module _ {S : Type 0} (next : ℕ → Option (Link S)) where
+  pub after-next : (k c : ℕ) (h : Link S) → next c ≡ some h → after next (suc k) c ≡ after next k (h .cell)
+  unfolding after
+  after-next k c h e = rw (e, after)
+
+  pub after-end : (k c : ℕ) → next c ≡ none → after next (suc k) c ≡ none
+  unfolding after
+  after-end k c e = rw (e, after)
+
+  pub after-zero : (c : ℕ) → after next zero c ≡ some c
+  unfolding after
+  after-zero c = refl
+
+module _ (next : ℕ → Option (Link Dir)) (outlet : ℕ → Bool) where
+  pub route-out : (n c : ℕ) → outlet c ≡ true → route next outlet n c ≡ []
+  unfolding route descent
+  route-out zero c e = refl
+  route-out (suc n) c e = rw (e, descent)
+
+  pub route-next : (n c : ℕ) (h : Link Dir) → outlet c ≡ false → next c ≡ some h → route next outlet (suc n) c ≡ route next outlet n (h .cell) ++ (opposite (h .step) ∷ [])
+  unfolding route descent
+  route-next n c h e f = rw (e, f, descent) (reverse-cons (opposite (h .step)) (map opposite (descent next outlet n (h .cell))))

@@ -1,0 +1,108 @@
+-- The eight directions: their order, codes and steps.
+-- Assumes nothing.
+use mathlib.Core.Bool.{Bool, true, false, cond}
+use mathlib.Core.List.{List, [], _∷_}
+use mathlib.Core.Option.{Option, none, some}
+use Prim.Native.Nat.{ℕ, zero, suc}
+use lib.Dec.{eqb, ltb}
+use Rattle.lengths.specs.declared.Step.{Step}
+use Rattle.lengths.specs.declared.Step.the-variants.{Straight, Diagonal}
+use Rattle.lengths.specs.Lengths.{Lengths, squareCells, steppedBy}
+
+pub data Dir : Type 0 where
+  E SE S SW W NW N NE : Dir
+
+-- "Neighbours are always taken in the order E, SE, S, SW, W, NW, N, NE."
+abbrev pub dirs : List Dir
+dirs = E ∷ SE ∷ S ∷ SW ∷ W ∷ NW ∷ N ∷ NE ∷ []
+
+-- a direction's place in that order
+abbrev pub placeOf : Dir → ℕ
+placeOf E = 0
+placeOf SE = 1
+placeOf S = 2
+placeOf SW = 3
+placeOf W = 4
+placeOf NW = 5
+placeOf N = 6
+placeOf NE = 7
+
+-- the table of codes
+abbrev pub codeOf : Dir → ℕ
+codeOf E = 1
+codeOf SE = 2
+codeOf S = 4
+codeOf SW = 8
+codeOf W = 16
+codeOf NW = 32
+codeOf N = 64
+codeOf NE = 128
+
+abbrev pub findDir : List Dir → ℕ → Option Dir
+findDir [] code = none
+findDir (d ∷ ds) code = cond (eqb (codeOf d) code) (some d) (findDir ds code)
+
+-- the direction that a code points in; none for 0 and for what is no code
+unfoldable pub dirOf : ℕ → Option Dir
+dirOf code = findDir dirs code
+
+-- is this the code of that direction?
+abbrev pub pointsIn : Dir → ℕ → Bool
+pointsIn d code = eqb code (codeOf d)
+
+abbrev pub opposite : Dir → Dir
+opposite E = W
+opposite SE = NW
+opposite S = N
+opposite SW = NE
+opposite W = E
+opposite NW = SE
+opposite N = S
+opposite NE = SW
+
+-- one less, the same, one more: of a row or a column number
+pub data Shift : Type 0 where
+  less as-is more : Shift
+
+-- "Rows grow to the south."
+abbrev pub rowShift : Dir → Shift
+rowShift E = as-is
+rowShift SE = more
+rowShift S = more
+rowShift SW = more
+rowShift W = as-is
+rowShift NW = less
+rowShift N = less
+rowShift NE = less
+
+abbrev pub colShift : Dir → Shift
+colShift E = more
+colShift SE = more
+colShift S = as-is
+colShift SW = less
+colShift W = less
+colShift NW = less
+colShift N = as-is
+colShift NE = more
+
+-- a number shifted, if it stays below the bound
+abbrev pub shifted : Shift → ℕ → ℕ → Option ℕ
+shifted less bound zero = none
+shifted less bound (suc x) = some x
+shifted as-is bound x = some x
+shifted more bound x = cond (ltb (suc x) bound) (some (suc x)) none
+
+-- whether a direction's step is straight or diagonal
+abbrev pub stepOf : Dir → Step
+stepOf E = Straight
+stepOf SE = Diagonal
+stepOf S = Straight
+stepOf SW = Diagonal
+stepOf W = Straight
+stepOf NW = Diagonal
+stepOf N = Straight
+stepOf NE = Diagonal
+
+-- lengths of square cells by directions
+abbrev pub squares : Lengths Dir
+squares = steppedBy stepOf SE squareCells

@@ -1,0 +1,91 @@
+-- The grid: cells and their codes, neighbours, where a cell flows, what flows into it.
+-- Assumes nothing.
+use mathlib.Core.Bool.{Bool, true, false, cond, not, _||_}
+use mathlib.Core.List.{List, [], _∷_, map}
+use mathlib.Core.Option.{Option, none, some}
+use Prim.Native.Nat.{ℕ, zero, suc, _+_, _*_, _/_, _%_}
+use lib.ListN.{getD}
+use lib.Dec.{eqb, ltb}
+use Rattle.ground.specs.Compass.{Dir, dirs, codeOf, dirOf, opposite, pointsIn, shifted, rowShift, colShift}
+
+-- "A grid has R rows and C columns, numbered from 0. Each cell has a code byte." The codes stand row by row in the first
+-- R × C places of the list
+pub record Grid : Type 0 where
+  pub rows : ℕ
+  pub cols : ℕ
+  pub codes : List ℕ
+
+abbrev pub gridOf : ℕ → ℕ → List ℕ → Grid
+gridOf rows cols codes = record { rows = rows; cols = cols; codes = codes }
+
+-- a cell, and the step between it and another
+pub record Link (S : Type 0) : Type 0 where
+  pub cell : ℕ
+  pub step : S
+
+-- "The cell number is row × C + column."
+abbrev pub cellAt : ℕ → Option ℕ → Option ℕ → Option ℕ
+cellAt cols none col = none
+cellAt cols (some row) none = none
+cellAt cols (some row) (some col) = some (row * cols + col)
+
+module _ (g : Grid) where
+  -- the number of cells
+  abbrev pub places : ℕ
+  places = g .rows * g .cols
+
+  -- the code of a cell; beyond the grid there is no ground
+  unfoldable pub codeAt : ℕ → ℕ
+  codeAt x = cond (ltb x places) (getD (g .codes) x 0) 0
+
+  -- "Code 0 is a null cell: no ground."
+  abbrev pub ground : ℕ → Bool
+  ground x = not (eqb (codeAt x) 0)
+
+  -- the neighbour in a direction, if it is on the grid: by row and column, and never by the cell number alone
+  unfoldable pub neighbour : ℕ → Dir → Option ℕ
+  neighbour x d = cellAt (g .cols) (shifted (rowShift d) (g .rows) (x / g .cols)) (shifted (colShift d) (g .cols) (x % g .cols))
+
+  -- the direction that a cell's code points in
+  abbrev pub flow : ℕ → Option Dir
+  flow x = dirOf (codeAt x)
+
+  -- a step onto a neighbour: not off the grid, nor to a null cell
+  abbrev pub onto : Dir → Option ℕ → Option (Link Dir)
+  onto d none = none
+  onto d (some y) = cond (ground y) (some (record { cell = y; step = d })) none
+
+  abbrev pub along : ℕ → Option Dir → Option (Link Dir)
+  along x none = none
+  along x (some d) = onto d (neighbour x d)
+
+  -- where a cell flows: "[a walk] ends at a cell whose code points off the grid or to a null cell"
+  unfoldable pub next : ℕ → Option (Link Dir)
+  next x = along x (flow x)
+
+  -- "A neighbour flows in if its code points at the cell": what lies in a direction points in the opposite one
+  abbrev pub flowsIn : Dir → Option ℕ → Bool
+  flowsIn d none = false
+  flowsIn d (some y) = pointsIn (opposite d) (codeAt y)
+
+  -- "The inflow record of a cell holds eight accumulations, one for each neighbour in that order, zero where it does not
+  -- flow in."
+  abbrev pub inflowValue : List ℕ → Dir → Option ℕ → ℕ
+  inflowValue a d none = 0
+  inflowValue a d (some y) = cond (flowsIn d (some y)) (getD a y 0) 0
+
+  unfoldable pub inflowRecord : List ℕ → ℕ → List ℕ
+  inflowRecord a x = map (λ d. inflowValue a d (neighbour x d)) dirs
+
+  -- the neighbours that flow in, in order, each with its step down
+  abbrev pub inflow : Dir → Option ℕ → List (Link Dir) → List (Link Dir)
+  inflow d none ks = ks
+  inflow d (some y) ks = cond (flowsIn d (some y)) (record { cell = y; step = opposite d } ∷ ks) ks
+
+  abbrev pub inflowsFrom : List Dir → ℕ → List (Link Dir)
+  inflowsFrom [] x = []
+  inflowsFrom (d ∷ ds) x = inflow d (neighbour x d) (inflowsFrom ds x)
+
+  -- those of a cell of ground
+  unfoldable pub inflows : ℕ → List (Link Dir)
+  inflows x = cond (ground x) (inflowsFrom dirs x) []

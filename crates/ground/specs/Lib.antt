@@ -1,0 +1,7 @@
+pub mod Lists
+pub mod Compass
+pub mod Grid
+pub mod Walk
+pub mod Accumulation
+pub mod Subwatershed
+pub mod Forest

@@ -1,0 +1,4 @@
+pub mod Surds
+pub mod Cases
+pub mod Ordered
+pub mod Laws
