@@ -18,9 +18,9 @@ pub every-map : {A : Type 0} (P Q : A → Type 0) → ((x : A) → P x → Q x) 
 every-map P Q f [] h = tt
 every-map P Q f (x ∷ xs) h = (f x (h .0), every-map P Q f xs (h .1))
 
-pub every-keepIf : {A : Type 0} (P : A → Type 0) (b : Bool) (x : A) (xs : List A) → P x → Every P xs → Every P (keepIf b x xs)
-every-keepIf P true x xs h i = (h, i)
-every-keepIf P false x xs h i = i
+pub every-keep : {A : Type 0} (P : A → Type 0) (b : Bool) (x : A) (xs : List A) → P x → Every P xs → Every P (keepIf b x xs)
+every-keep P true x xs h i = (h, i)
+every-keep P false x xs h i = i
 
 pub keep-append : {A : Type 0} (b : Bool) (x : A) (xs ys : List A) → keepIf b x (xs ++ ys) ≡ keepIf b x xs ++ ys
 keep-append true x xs ys = refl

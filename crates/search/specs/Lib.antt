@@ -1,0 +1,4 @@
+pub mod Search
+pub mod Pending
+pub mod Tracing
+pub mod Demand

@@ -1,0 +1,98 @@
+-- The search through the forest above an outlet, with and without dropping.
+-- Assumes nothing.
+use mathlib.Core.Bool.{Bool, true, false, not, _&&_, _||_}
+use mathlib.Core.List.{List, [], _∷_, _++_}
+use Prim.Native.Nat.{ℕ, zero, suc, _+_}
+use Rattle.lengths.specs.Lengths.{Lengths}
+use Rattle.ground.specs.Lists.{only}
+use Rattle.ground.specs.Walk.{At}
+use Rattle.ground.specs.Forest.{Forest, bare, tree, size, Which}
+
+-- a headwater has nothing above it
+abbrev pub headwater : {S : Type 0} → Which S
+headwater c bare = true
+headwater c (tree c′ s above rest) = false
+
+module _ {S : Type 0} (𝓛 : Lengths S) where
+  open Lengths 𝓛 using (Len, start, _▹_, top, shorter)
+
+  -- is a length less than that of one of these cells?
+  abbrev pub exceeded : List (At Len) → Len → Bool
+  exceeded [] l = false
+  exceeded (x ∷ xs) l = shorter l (x .len) || exceeded xs l
+
+  -- of these cells those that none exceeds
+  abbrev pub longest : List (At Len) → List (At Len)
+  longest xs = only (λ x. not (exceeded xs (x .len))) xs
+
+  -- what the search has so far: the starts, all of the greatest length met, and how many cells it visited and dropped
+  pub record State : Type 0 where
+    pub starts : List (At Len)
+    pub visited : ℕ
+    pub dropped : ℕ
+
+  abbrev pub fresh : State
+  fresh = record { starts = []; visited = 0; dropped = 0 }
+
+  -- a length is met: shorter than the greatest it is forgotten, longer it takes its place, equal it is a tie
+  abbrev pub meet : List (At Len) → At Len → List (At Len)
+  meet [] x = x ∷ []
+  meet (g ∷ gs) x = elim (shorter (x .len) (g .len)) [
+    | true ↦ g ∷ gs
+    | false ↦ elim (shorter (g .len) (x .len)) [ true ↦ x ∷ [] | false ↦ (g ∷ gs) ++ (x ∷ []) ]
+  ]
+
+  abbrev pub meetIf : Bool → List (At Len) → At Len → List (At Len)
+  meetIf true gs x = meet gs x
+  meetIf false gs x = gs
+
+  -- has a length been met, and is this one shorter than the greatest met so far?
+  abbrev pub belowGreatest : List (At Len) → Len → Bool
+  belowGreatest [] l = false
+  belowGreatest (g ∷ gs) l = shorter l (g .len)
+
+  -- d and n of the longest steps: d + n√2
+  abbrev pub farthest : Len → ℕ → Len
+  farthest d zero = d
+  farthest d (suc n) = farthest (d ▹ top) n
+
+  -- how a search goes: with or without dropping; the limit of a neighbour with n cells, entered by a step from a cell at
+  -- length d; and at which cells it meets a length
+  pub record Rule : Type 0 where
+    pub dropping : Bool
+    pub limit : Len → S → ℕ → Len
+    pub meets : Which S
+
+  -- "At each headwater it meets a length", and the limit is d + n√2, the step left out of account
+  abbrev pub firstRule : Bool → Rule
+  firstRule dropping = record { dropping = dropping; limit = λ d s n. farthest d n; meets = headwater }
+
+  -- "it drops that neighbour and all n cells exactly if a length has been met and d + n√2 is shorter than the greatest met
+  -- so far"
+  abbrev pub drops : Rule → List (At Len) → Len → S → ℕ → Bool
+  drops rule gs d s n = rule .dropping && belowGreatest gs (rule .limit d s n)
+
+  -- "dropped is the sum of n over drops"
+  abbrev pub drop : State → ℕ → State
+  drop st n = record { starts = st .starts; visited = st .visited; dropped = st .dropped + n }
+
+  -- "Visited is the number of cells visited"
+  abbrev pub visit : Rule → State → ℕ → Len → Forest S → State
+  visit rule st c l above = record {
+    starts = meetIf (rule .meets c above) (st .starts) (record { cell = c; len = l });
+    visited = st .visited + 1;
+    dropped = st .dropped;
+  }
+
+  -- "takes [the inflows] in neighbour order, outlets left out, and finishes all that it visits above one before it turns to
+  -- the next": from a cell at length d. A neighbour's n is the number of its cell and all above it
+  abbrev pub search : Rule → Len → State → Forest S → State
+  search rule d st bare = st
+  search rule d st (tree c s above rest) = search rule d (elim (drops rule (st .starts) d s (suc (size above))) [
+    | true ↦ drop st (suc (size above))
+    | false ↦ search rule (d ▹ s) (visit rule st c (d ▹ s) above) above
+  ]) rest
+
+  -- "A search starts at the outlet and visits a cell before its inflows."
+  abbrev pub searchFrom : Rule → ℕ → Forest S → State
+  searchFrom rule o above = search rule start (visit rule fresh o start above) above
