@@ -1,0 +1,74 @@
+-- What tracing answers, by stack and by recursion, and what it leaves in the lent grid, list and working space.
+-- Assumes nothing.
+use mathlib.Core.Bool.{Bool, true, false, cond}
+use mathlib.Core.List.{List, [], _∷_, _++_}
+use Prim.Native.Nat.{ℕ, _*_}
+use lib.ListN.{length, getD}
+use lib.Dec.{eqb}
+use Rattle.ground.specs.Lists.{member}
+use Rattle.ground.specs.Grid.{Grid}
+use Rattle.ground.specs.Accumulation.{subaccumulation, subaccumulations}
+use Rattle.search.specs.Tracing.{Tracing, tracing}
+use Rattle.answers.specs.declared.Answer.{Answer}
+use Rattle.answers.specs.declared.Answer.the-variants.{Found, NoPlace, Refused}
+use Rattle.answers.specs.declared.Traced.{Traced}
+use Rattle.answers.specs.Checks.{Check, firstFailed, check18, check19, check20, check21}
+use Rattle.answers.specs.Entries.{overlaid, zeros, callGrid, outletChecks}
+
+-- the number of each kind of answer
+abbrev pub numberOf : Answer → ℕ
+numberOf (Found straight diagonal paths) = 0
+numberOf (NoPlace paths) = 21
+numberOf (Refused number) = number
+
+-- the answer to a number: "found with its length and number of paths, no place with the true number of paths, or another
+-- refusal. Beside it stand visited and dropped, both 0 on every refusal but 21."
+unfoldable pub tracedBy : ℕ → Tracing → Traced
+tracedBy number t =
+    cond (eqb number 0) (record { visited = t .visited; dropped = t .dropped; answer = Found (t .len .straight) (t .len .diagonal) (t .paths) })
+    (cond (eqb number 21) (record { visited = t .visited; dropped = t .dropped; answer = NoPlace (t .paths) })
+    (record { visited = 0; dropped = 0; answer = Refused number }))
+
+module _ (dropping : Bool) (rows cols : ℕ) (codes accumulation outlets : List ℕ) (place : ℕ) (sub starts : List ℕ) where
+  abbrev grid : Grid
+  grid = callGrid rows cols codes accumulation
+
+  -- the outlet chosen
+  abbrev pub chosen : ℕ
+  chosen = getD outlets place 0
+
+  -- what the search tells of it
+  abbrev pub chosenTracing : Tracing
+  chosenTracing = tracing dropping grid outlets chosen
+
+  -- 10, 11 of three grids, 12, 14 to 18
+  abbrev pub chooseChecks : List Check
+  chooseChecks =
+      outletChecks rows cols codes accumulation (length codes ∷ length accumulation ∷ length sub ∷ []) outlets
+      ++ (check18 outlets place ∷ [])
+
+  -- TRACE BY RECURSION: then 19, 21
+  unfoldable pub recursionNumber : ℕ
+  recursionNumber = firstFailed (chooseChecks ++ (check19 grid outlets chosen ∷ check21 chosenTracing starts ∷ []))
+
+  -- TRACE BY STACK: then 20, 21
+  unfoldable pub stackNumber : List ℕ → ℕ
+  stackNumber work = firstFailed (chooseChecks ++ (check20 grid outlets chosen work ∷ check21 chosenTracing starts ∷ []))
+
+  unfoldable pub recursionAnswer : Traced
+  recursionAnswer = tracedBy recursionNumber chosenTracing
+
+  unfoldable pub stackAnswer : List ℕ → Traced
+  stackAnswer work = tracedBy (stackNumber work) chosenTracing
+
+  -- what either leaves, by its number. "19, 20 and 21 leave the subaccumulation grid filled as on acceptance."
+  unfoldable pub traceLeavesSub : ℕ → List ℕ
+  traceLeavesSub number = cond (member number (0 ∷ 19 ∷ 20 ∷ 21 ∷ [])) (overlaid (subaccumulations grid outlets) sub) sub
+
+  -- the starts; "21 fills every list place with the first longest starts in order"
+  unfoldable pub traceLeavesStarts : ℕ → List ℕ
+  traceLeavesStarts number = cond (member number (0 ∷ 21 ∷ [])) (overlaid (chosenTracing .starts) starts) starts
+
+  -- "Stack tracing, accepted or refused with 21, leaves the first 3 × subaccumulation working numbers 0."
+  unfoldable pub traceLeavesWork : ℕ → List ℕ → List ℕ
+  traceLeavesWork number work = cond (member number (0 ∷ 21 ∷ [])) (overlaid (zeros (3 * subaccumulation grid outlets chosen)) work) work
