@@ -4,3 +4,4 @@ pub mod Headwaters
 pub mod Waiting
 pub mod Ordered
 pub mod Demand3
+pub mod Faithful
