@@ -15,7 +15,22 @@ use Rattle.ground.specs.Accumulation.{agrees}
 use Rattle.search.specs.Tracing.{Tracing, tracing}
 use Rattle.search.specs.Demand.{anyCell, Demand3}
 use Rattle.search.proofs.Demand3.{demand3}
-use Rattle.answers.specs.Checks.{Check, firstFailed, all, check10, check11, check12, check14, check15, check16, check17, check18, check19, check20, check21}
+use Rattle.answers.specs.Checks.{
+  Check,
+  firstFailed,
+  all,
+  check10,
+  check11,
+  check12,
+  check14,
+  check15,
+  check16,
+  check17,
+  check18,
+  check19,
+  check20,
+  check21,
+}
 use Rattle.answers.specs.Entries.{overlaid, callGrid}
 use Rattle.answers.specs.Tracings.{chosen, chosenTracing, chooseChecks, recursionNumber, stackNumber}
 
@@ -25,12 +40,14 @@ unfolding overlaid
 overlaid-length new old = simp (length-append, length-take, length-drop) (omega arith)
 
 -- the checks before the one that gave the number all pass
-pub all-passed : (n : ℕ) (cs ds : List Check) → Every (λ c. c .number ≡ n → ⊥) cs → firstFailed (cs ++ ds) ≡ n → Every (λ c. c .passes ≡ true) cs
+pub all-passed : (n : ℕ) (cs ds : List Check) → Every (λ c. c .number ≡ n → ⊥) cs → firstFailed (cs ++ ds) ≡ n
+    → Every (λ c. c .passes ≡ true) cs
 unfolding firstFailed
 all-passed n [] ds k e = tt
 all-passed n (c ∷ cs) ds k e = go (c .passes) refl (all-passed n cs ds (k .1))
   where
-    go : (b : Bool) → c .passes ≡ b → (firstFailed (cs ++ ds) ≡ n → Every (λ d. d .passes ≡ true) cs) → Every (λ d. d .passes ≡ true) (c ∷ cs)
+    go : (b : Bool) → c .passes ≡ b → (firstFailed (cs ++ ds) ≡ n → Every (λ d. d .passes ≡ true) cs)
+        → Every (λ d. d .passes ≡ true) (c ∷ cs)
     go true p ih = (p, ih (sym (rw p) ∙ e))
     go false p ih = absurd (k .0 (sym (rw p) ∙ e))
 
@@ -61,25 +78,48 @@ module _ (dropping : Bool) (rows cols : ℕ) (codes accumulation outlets : List 
 
   -- the promise of what is told
   abbrev pub Promise : Type 0
-  Promise = Demand3 grid outlets anyCell chosenOne (chosenTracing dropping rows cols codes accumulation outlets place sub starts) (chosenTracing false rows cols codes accumulation outlets place sub starts)
+  Promise = Demand3 grid outlets anyCell chosenOne
+      (chosenTracing dropping rows cols codes accumulation outlets place sub starts)
+      (chosenTracing false rows cols codes accumulation outlets place sub starts)
 
   passed-promise : Every (λ c. c .passes ≡ true) before → Promise
   unfolding check14 check16 check18
   passed-promise p =
       let inside = ltb-true place (length outlets) (p .1 .1 .1 .1 .1 .1 .1 .0) in
-      let placed = and-both (ltb chosenOne (places grid)) (ground grid chosenOne) (all-at (λ o. ltb o (places grid) && ground grid o) outlets (p .1 .1 .1 .1 .1 .0) place inside) in
+      let placed = and-both (ltb chosenOne (places grid)) (ground grid chosenOne)
+      (all-at (λ o. ltb o (places grid) && ground grid o) outlets (p .1 .1 .1 .1 .1 .0) place inside) in
       demand3 grid accumulation (p .1 .1 .1 .0) outlets chosenOne (member-at outlets place inside) (placed .1) dropping
 
   -- none of the checks before gives 0 or 21
   none-before : (n : ℕ) → (n ≡ 0) ⊎ (n ≡ 21) → Every (λ c. c .number ≡ n → ⊥) before
   unfolding check10 check11 check12 check14 check15 check16 check17 check18
-  none-before n (inl e) = (λ h. omega arith, (λ h. omega arith, (λ h. omega arith, (λ h. omega arith, (λ h. omega arith, (λ h. omega arith, (λ h. omega arith, (λ h. omega arith, tt))))))))
-  none-before n (inr e) = (λ h. omega arith, (λ h. omega arith, (λ h. omega arith, (λ h. omega arith, (λ h. omega arith, (λ h. omega arith, (λ h. omega arith, (λ h. omega arith, tt))))))))
+  none-before n (inl e) = (
+    λ h. omega arith,
+    (
+      λ h. omega arith,
+      (
+        λ h. omega arith,
+        (λ h. omega arith, (λ h. omega arith, (λ h. omega arith, (λ h. omega arith, (λ h. omega arith, tt))))),
+      ),
+    ),
+  )
+  none-before n (inr e) = (
+    λ h. omega arith,
+    (
+      λ h. omega arith,
+      (
+        λ h. omega arith,
+        (λ h. omega arith, (λ h. omega arith, (λ h. omega arith, (λ h. omega arith, (λ h. omega arith, tt))))),
+      ),
+    ),
+  )
 
-  pub recursion-promise : (n : ℕ) → (n ≡ 0) ⊎ (n ≡ 21) → recursionNumber dropping rows cols codes accumulation outlets place sub starts ≡ n → Promise
+  pub recursion-promise : (n : ℕ) → (n ≡ 0) ⊎ (n ≡ 21)
+      → recursionNumber dropping rows cols codes accumulation outlets place sub starts ≡ n → Promise
   unfolding recursionNumber
   recursion-promise n i e = passed-promise (all-passed n before _ (none-before n i) e)
 
-  pub stack-promise : (work : List ℕ) (n : ℕ) → (n ≡ 0) ⊎ (n ≡ 21) → stackNumber dropping rows cols codes accumulation outlets place sub starts work ≡ n → Promise
+  pub stack-promise : (work : List ℕ) (n : ℕ) → (n ≡ 0) ⊎ (n ≡ 21)
+      → stackNumber dropping rows cols codes accumulation outlets place sub starts work ≡ n → Promise
   unfolding stackNumber
   stack-promise work n i e = passed-promise (all-passed n before _ (none-before n i) e)

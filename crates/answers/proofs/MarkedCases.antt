@@ -11,12 +11,49 @@ use Rattle.ground.specs.Accumulation.{balance, agrees, subaccumulation}
 use Rattle.ground.specs.Subwatershed.{belongs, inSubwatershed, walked}
 use Rattle.ground.specs.Forest.{forest}
 use Rattle.search.specs.Tracing.{tracingBy}
-use Rattle.answers.specs.Checks.{firstFailed, isCode, check10, check11, check12, check13, check14, check15, check16, check17, check18, check19, check20, check21, check22, check23}
-use Rattle.answers.specs.Entries.{overlaid, accumulateNumber, accumulateLeaves, checkNumber, subaccumulateNumber, subaccumulateLeaves}
-use Rattle.answers.specs.Tracings.{tracedBy, recursionNumber, stackNumber, recursionAnswer, stackAnswer, traceLeavesSub, traceLeavesStarts, traceLeavesWork}
+use Rattle.answers.specs.Checks.{
+  firstFailed,
+  isCode,
+  check10,
+  check11,
+  check12,
+  check13,
+  check14,
+  check15,
+  check16,
+  check17,
+  check18,
+  check19,
+  check20,
+  check21,
+  check22,
+  check23,
+}
+use Rattle.answers.specs.Entries.{
+  overlaid,
+  accumulateNumber,
+  accumulateLeaves,
+  checkNumber,
+  subaccumulateNumber,
+  subaccumulateLeaves,
+}
+use Rattle.answers.specs.Tracings.{
+  tracedBy,
+  recursionNumber,
+  stackNumber,
+  recursionAnswer,
+  stackAnswer,
+  traceLeavesSub,
+  traceLeavesStarts,
+  traceLeavesWork,
+}
 use Rattle.answers.specs.Drawing.{drawNumber, drawLeaves, drawnPart}
 use Rattle.answers.specs.Marked.{marks, worked}
 
 pub marked : map worked marks ≡ marks
-unfolding compared ruled signOf isShorter sumOf dirOf codeAt neighbour next inflowRecord inflows ringFree balance agrees subaccumulation belongs inSubwatershed walked forest tracingBy firstFailed isCode check10 check11 check12 check13 check14 check15 check16 check17 check18 check19 check20 check21 check22 check23 overlaid accumulateNumber accumulateLeaves checkNumber subaccumulateNumber subaccumulateLeaves tracedBy recursionNumber stackNumber recursionAnswer stackAnswer traceLeavesSub traceLeavesStarts traceLeavesWork drawNumber drawLeaves drawnPart
+unfolding compared ruled signOf isShorter sumOf dirOf codeAt neighbour next inflowRecord inflows ringFree balance
+    agrees subaccumulation belongs inSubwatershed walked forest tracingBy firstFailed isCode check10 check11 check12
+    check13 check14 check15 check16 check17 check18 check19 check20 check21 check22 check23 overlaid accumulateNumber
+    accumulateLeaves checkNumber subaccumulateNumber subaccumulateLeaves tracedBy recursionNumber stackNumber
+    recursionAnswer stackAnswer traceLeavesSub traceLeavesStarts traceLeavesWork drawNumber drawLeaves drawnPart
 marked = refl

@@ -7,7 +7,18 @@ use lib.ListN.{length, take, drop, replicate}
 use lib.Dec.{eqb}
 use Rattle.ground.specs.Grid.{Grid, gridOf, places}
 use Rattle.ground.specs.Accumulation.{accumulations, subaccumulations}
-use Rattle.answers.specs.Checks.{Check, firstFailed, check10, check11, check12, check13, check14, check15, check16, check17}
+use Rattle.answers.specs.Checks.{
+  Check,
+  firstFailed,
+  check10,
+  check11,
+  check12,
+  check13,
+  check14,
+  check15,
+  check16,
+  check17,
+}
 
 -- the first places of what was lent hold these numbers, as many as there are places for; "Places beyond those an answer
 -- needs keep their contents."

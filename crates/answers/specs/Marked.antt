@@ -15,8 +15,24 @@ use Rattle.ground.specs.Accumulation.{accumulations, subaccumulation}
 use Rattle.answers.specs.declared.Answer.{Answer}
 use Rattle.answers.specs.declared.Answer.the-variants.{Found, NoPlace, Refused}
 use Rattle.answers.specs.declared.Traced.{Traced}
-use Rattle.answers.specs.Entries.{zeros, accumulateNumber, accumulateLeaves, checkNumber, subaccumulateNumber, subaccumulateLeaves}
-use Rattle.answers.specs.Tracings.{stackNumber, stackAnswer, recursionNumber, recursionAnswer, traceLeavesSub, traceLeavesStarts, traceLeavesWork}
+use Rattle.answers.specs.Entries.{
+  zeros,
+  accumulateNumber,
+  accumulateLeaves,
+  checkNumber,
+  subaccumulateNumber,
+  subaccumulateLeaves,
+}
+use Rattle.answers.specs.Tracings.{
+  answered,
+  stackNumber,
+  stackAnswer,
+  recursionNumber,
+  recursionAnswer,
+  traceLeavesSub,
+  traceLeavesStarts,
+  traceLeavesWork,
+}
 use Rattle.answers.specs.Drawing.{drawNumber, drawLeaves, drawnPart}
 
 -- what was lent holds nines
@@ -28,13 +44,13 @@ abbrev pub wiped : ℕ → List ℕ
 wiped n = zeros n ++ (9 ∷ [])
 
 abbrev pub found : ℕ → ℕ → ℕ → ℕ → ℕ → Traced
-found a b paths visited dropped = record { visited = visited; dropped = dropped; answer = Found a b paths }
+found a b paths visited dropped = answered visited dropped (Found a b paths)
 
 abbrev pub noPlace : ℕ → ℕ → ℕ → Traced
-noPlace paths visited dropped = record { visited = visited; dropped = dropped; answer = NoPlace paths }
+noPlace paths visited dropped = answered visited dropped (NoPlace paths)
 
 abbrev pub refused : ℕ → Traced
-refused number = record { visited = 0; dropped = 0; answer = Refused number }
+refused number = answered 0 0 (Refused number)
 
 -- what is told of an outlet by stack with dropping, and by recursion without; what is left in a list of three places, and
 -- in a working space with one number more than is needed
@@ -65,7 +81,8 @@ pub data Mark : Type 0 where
   traces : (rows cols : ℕ) (codes outlets : List ℕ) → ℕ → List ℕ → List Told → Mark
   -- the same, one call by stack with dropping at a place of the list: the lent list, the size of the working space; the
   -- answer, what is left in the subaccumulation grid, the list and the working space
-  calls : (rows cols : ℕ) (codes outlets : List ℕ) (place : ℕ) (starts : List ℕ) (work : ℕ) → Traced → List ℕ → List ℕ → List ℕ → Mark
+  calls : (rows cols : ℕ) (codes outlets : List ℕ) (place : ℕ) (starts : List ℕ) (work : ℕ) → Traced → List ℕ → List ℕ
+      → List ℕ → Mark
   -- one drawing: the lent places; the number, what is left, the part handed back
   draws : (rows cols : ℕ) (codes outlets : List ℕ) (place start : ℕ) (places : List ℕ) → ℕ → List ℕ → List ℕ → Mark
 
@@ -168,18 +185,23 @@ marks =
     -- short ties come before the longer path: the list is not scratch, and one place is enough
     ∷ traces 3 3 (0 ∷ 4 ∷ 0 ∷ 0 ∷ 4 ∷ 0 ∷ 1 ∷ 4 ∷ 16 ∷ []) (7 ∷ []) 0 (0 ∷ 1 ∷ 0 ∷ 0 ∷ 2 ∷ 0 ∷ 1 ∷ 5 ∷ 1 ∷ 9 ∷ [])
     (tells 2 0 1 5 0 5 (1 ∷ 9 ∷ 9 ∷ []) ∷ [])
-    ∷ calls 3 3 (0 ∷ 4 ∷ 0 ∷ 0 ∷ 4 ∷ 0 ∷ 1 ∷ 4 ∷ 16 ∷ []) (7 ∷ []) 0 (nines 1) 16 (found 2 0 1 5 0) (0 ∷ 1 ∷ 0 ∷ 0 ∷ 2 ∷ 0 ∷ 1 ∷ 5 ∷ 1 ∷ 9 ∷ []) (1 ∷ []) (wiped 15)
+    ∷ calls 3 3 (0 ∷ 4 ∷ 0 ∷ 0 ∷ 4 ∷ 0 ∷ 1 ∷ 4 ∷ 16 ∷ []) (7 ∷ []) 0 (nines 1) 16 (found 2 0 1 5 0)
+    (0 ∷ 1 ∷ 0 ∷ 0 ∷ 2 ∷ 0 ∷ 1 ∷ 5 ∷ 1 ∷ 9 ∷ []) (1 ∷ []) (wiped 15)
     -- outlets in any order
     ∷ traces 1 6 (1 ∷ 1 ∷ 1 ∷ 1 ∷ 1 ∷ 1 ∷ []) (2 ∷ 0 ∷ 5 ∷ []) 0 (1 ∷ 1 ∷ 2 ∷ 1 ∷ 2 ∷ 3 ∷ 9 ∷ [])
     (tells 1 0 1 2 0 2 (1 ∷ 9 ∷ 9 ∷ []) ∷ tells 0 0 1 1 0 1 (0 ∷ 9 ∷ 9 ∷ []) ∷ tells 2 0 1 3 0 3 (3 ∷ 9 ∷ 9 ∷ []) ∷ [])
     -- a tie that sums of floats split
-    ∷ traces 3 7 (0 ∷ 0 ∷ 0 ∷ 64 ∷ 16 ∷ 0 ∷ 0 ∷ 0 ∷ 0 ∷ 128 ∷ 0 ∷ 0 ∷ 32 ∷ 0 ∷ 1 ∷ 128 ∷ 0 ∷ 0 ∷ 0 ∷ 0 ∷ 32 ∷ []) (3 ∷ []) 0 (0 ∷ 0 ∷ 0 ∷ 7 ∷ 3 ∷ 0 ∷ 0 ∷ 0 ∷ 0 ∷ 3 ∷ 0 ∷ 0 ∷ 2 ∷ 0 ∷ 1 ∷ 2 ∷ 0 ∷ 0 ∷ 0 ∷ 0 ∷ 1 ∷ 9 ∷ [])
+    ∷ traces 3 7 (0 ∷ 0 ∷ 0 ∷ 64 ∷ 16 ∷ 0 ∷ 0 ∷ 0 ∷ 0 ∷ 128 ∷ 0 ∷ 0 ∷ 32 ∷ 0 ∷ 1 ∷ 128 ∷ 0 ∷ 0 ∷ 0 ∷ 0 ∷ 32 ∷ [])
+    (3 ∷ []) 0 (0 ∷ 0 ∷ 0 ∷ 7 ∷ 3 ∷ 0 ∷ 0 ∷ 0 ∷ 0 ∷ 3 ∷ 0 ∷ 0 ∷ 2 ∷ 0 ∷ 1 ∷ 2 ∷ 0 ∷ 0 ∷ 0 ∷ 0 ∷ 1 ∷ 9 ∷ [])
     (tells 1 2 2 7 0 7 (20 ∷ 14 ∷ 9 ∷ []) ∷ [])
     -- a snail
     ∷ traces 3 3 (1 ∷ 1 ∷ 64 ∷ 64 ∷ 1 ∷ 4 ∷ 64 ∷ 16 ∷ 16 ∷ []) (2 ∷ []) 0 (7 ∷ 8 ∷ 9 ∷ 6 ∷ 1 ∷ 2 ∷ 5 ∷ 4 ∷ 3 ∷ 9 ∷ [])
     (tells 8 0 1 9 0 9 (4 ∷ 9 ∷ 9 ∷ []) ∷ [])
     -- a valley that a lower estimate from Hack's law drops wrongly
-    ∷ traces 6 7 (2 ∷ 0 ∷ 0 ∷ 0 ∷ 0 ∷ 0 ∷ 0 ∷ 0 ∷ 2 ∷ 2 ∷ 2 ∷ 4 ∷ 8 ∷ 8 ∷ 0 ∷ 0 ∷ 2 ∷ 2 ∷ 4 ∷ 8 ∷ 8 ∷ 0 ∷ 0 ∷ 2 ∷ 8 ∷ 16 ∷ 16 ∷ 16 ∷ 0 ∷ 0 ∷ 0 ∷ 128 ∷ 64 ∷ 32 ∷ 32 ∷ 0 ∷ 0 ∷ 128 ∷ 128 ∷ 64 ∷ 32 ∷ 32 ∷ []) (24 ∷ []) 0 (1 ∷ 0 ∷ 0 ∷ 0 ∷ 0 ∷ 0 ∷ 0 ∷ 0 ∷ 2 ∷ 1 ∷ 1 ∷ 1 ∷ 1 ∷ 1 ∷ 0 ∷ 0 ∷ 3 ∷ 2 ∷ 4 ∷ 2 ∷ 1 ∷ 0 ∷ 0 ∷ 1 ∷ 26 ∷ 22 ∷ 4 ∷ 1 ∷ 0 ∷ 0 ∷ 0 ∷ 3 ∷ 4 ∷ 2 ∷ 1 ∷ 0 ∷ 0 ∷ 1 ∷ 1 ∷ 1 ∷ 1 ∷ 1 ∷ 9 ∷ [])
+    ∷ traces 6 7 (2 ∷ 0 ∷ 0 ∷ 0 ∷ 0 ∷ 0 ∷ 0 ∷ 0 ∷ 2 ∷ 2 ∷ 2 ∷ 4 ∷ 8 ∷ 8 ∷ 0 ∷ 0 ∷ 2 ∷ 2 ∷ 4 ∷ 8 ∷ 8 ∷ 0 ∷ 0 ∷ 2 ∷ 8
+    ∷ 16 ∷ 16 ∷ 16 ∷ 0 ∷ 0 ∷ 0 ∷ 128 ∷ 64 ∷ 32 ∷ 32 ∷ 0 ∷ 0 ∷ 128 ∷ 128 ∷ 64 ∷ 32 ∷ 32 ∷ []) (24 ∷ []) 0
+    (1 ∷ 0 ∷ 0 ∷ 0 ∷ 0 ∷ 0 ∷ 0 ∷ 0 ∷ 2 ∷ 1 ∷ 1 ∷ 1 ∷ 1 ∷ 1 ∷ 0 ∷ 0 ∷ 3 ∷ 2 ∷ 4 ∷ 2 ∷ 1 ∷ 0 ∷ 0 ∷ 1 ∷ 26 ∷ 22 ∷ 4 ∷ 1
+    ∷ 0 ∷ 0 ∷ 0 ∷ 3 ∷ 4 ∷ 2 ∷ 1 ∷ 0 ∷ 0 ∷ 1 ∷ 1 ∷ 1 ∷ 1 ∷ 1 ∷ 9 ∷ [])
     (tells 0 3 1 20 6 26 (0 ∷ 9 ∷ 9 ∷ []) ∷ [])
     -- one column: a walk east ends off the grid and does not wrap
     ∷ accumulates 2 1 (1 ∷ 1 ∷ []) (nines 3) 0 (1 ∷ 1 ∷ 9 ∷ [])

@@ -21,13 +21,16 @@ numberOf (Found straight diagonal paths) = 0
 numberOf (NoPlace paths) = 21
 numberOf (Refused number) = number
 
+abbrev pub answered : ℕ → ℕ → Answer → Traced
+answered visited dropped answer = record { visited = visited; dropped = dropped; answer = answer }
+
 -- the answer to a number: "found with its length and number of paths, no place with the true number of paths, or another
 -- refusal. Beside it stand visited and dropped, both 0 on every refusal but 21."
 unfoldable pub tracedBy : ℕ → Tracing → Traced
 tracedBy number t =
-    cond (eqb number 0) (record { visited = t .visited; dropped = t .dropped; answer = Found (t .len .straight) (t .len .diagonal) (t .paths) })
-    (cond (eqb number 21) (record { visited = t .visited; dropped = t .dropped; answer = NoPlace (t .paths) })
-    (record { visited = 0; dropped = 0; answer = Refused number }))
+    cond (eqb number 0) (answered (t .visited) (t .dropped) (Found (t .len .straight) (t .len .diagonal) (t .paths)))
+    (cond (eqb number 21) (answered (t .visited) (t .dropped) (NoPlace (t .paths)))
+    (answered 0 0 (Refused number)))
 
 module _ (dropping : Bool) (rows cols : ℕ) (codes accumulation outlets : List ℕ) (place : ℕ) (sub starts : List ℕ) where
   abbrev grid : Grid
@@ -71,4 +74,5 @@ module _ (dropping : Bool) (rows cols : ℕ) (codes accumulation outlets : List 
 
   -- "Stack tracing, accepted or refused with 21, leaves the first 3 × subaccumulation working numbers 0."
   unfoldable pub traceLeavesWork : ℕ → List ℕ → List ℕ
-  traceLeavesWork number work = cond (member number (0 ∷ 21 ∷ [])) (overlaid (zeros (3 * subaccumulation grid outlets chosen)) work) work
+  traceLeavesWork number work =
+      cond (member number (0 ∷ 21 ∷ [])) (overlaid (zeros (3 * subaccumulation grid outlets chosen)) work) work

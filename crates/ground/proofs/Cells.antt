@@ -13,8 +13,47 @@ use lib.Arith.{digits-div, digits-mod, digits-lt}
 use lib.Dec.{eqb, ltb}
 use borrow.Author.Tests.{eqb-true, eq-eqb, ltb-true, lt-ltb, le-ltb}
 use Rattle.ground.specs.Lists.{sumOf}
-use Rattle.ground.specs.Compass.{Dir, E, SE, S, SW, W, NW, N, NE, dirs, placeOf, codeOf, findDir, dirOf, pointsIn, opposite, Shift, less, as-is, more, shifted, rowShift, colShift}
-use Rattle.ground.specs.Grid.{Grid, Link, cellAt, places, codeAt, ground, neighbour, flow, onto, along, next, inflowRecord, inflowsFrom, inflows}
+use Rattle.ground.specs.Compass.{
+  Dir,
+  E,
+  SE,
+  S,
+  SW,
+  W,
+  NW,
+  N,
+  NE,
+  dirs,
+  placeOf,
+  codeOf,
+  findDir,
+  dirOf,
+  pointsIn,
+  opposite,
+  Shift,
+  less,
+  as-is,
+  more,
+  shifted,
+  rowShift,
+  colShift,
+}
+use Rattle.ground.specs.Grid.{
+  Grid,
+  Link,
+  cellAt,
+  places,
+  codeAt,
+  ground,
+  neighbour,
+  flow,
+  onto,
+  along,
+  next,
+  inflowRecord,
+  inflowsFrom,
+  inflows,
+}
 use Rattle.ground.specs.Accumulation.{gathered, balance, subaccumulation}
 use Rattle.ground.specs.Lists.{member}
 
@@ -50,7 +89,8 @@ find-code [] code d e = let w : _≡_ {A = ℕ} 0 1 = cc in absurd (omega arith)
 find-code (f ∷ ds) code d e = go (eqb (codeOf f) code) refl (find-code ds code d)
   where
     go : (b : Bool) → eqb (codeOf f) code ≡ b → (findDir ds code ≡ some d → code ≡ codeOf d) → code ≡ codeOf d
-    go true h ih = let p : some f ≡ some d = sym (rw h) ∙ e in let q : f ≡ d = cc in sym (eqb-true (codeOf f) code h) ∙ ap codeOf q
+    go true h ih = let p : some f ≡ some d = sym (rw h) ∙ e in let q : f ≡ d = cc in sym (eqb-true (codeOf f) code h)
+        ∙ ap codeOf q
     go false h ih = ih (sym (rw h) ∙ e)
 
 pub dir-is : (code : ℕ) (d : Dir) → dirOf code ≡ some d → code ≡ codeOf d
@@ -97,7 +137,12 @@ record Shifted (s : Shift) (bound x y : ℕ) : Type 0 where
 
 shifted-back : (s : Shift) (bound x y : ℕ) → x < bound → shifted s bound x ≡ some y → Shifted s bound x y
 shifted-back less bound zero y h e = let w : _≡_ {A = ℕ} 0 1 = cc in absurd (omega arith)
-shifted-back less bound (suc x) y h e = let q : x ≡ y = cc in record { within = omega arith; undone = rw (lt-ltb (suc y) bound (omega arith)) (ap (λ (z : ℕ). some (suc z)) (sym q)) }
+shifted-back less bound (suc x) y h e = let q : x ≡ y = cc in
+    record {
+      within = omega arith;
+      undone = rw (lt-ltb (suc y) bound (omega arith))
+          (ap (λ (z : ℕ). some (suc z)) (sym q));
+    }
 shifted-back as-is bound x y h e = let q : x ≡ y = cc in record { within = omega arith; undone = ap some (sym q) }
 shifted-back more bound x y h e = go (ltb (suc x) bound) refl
   where
@@ -105,7 +150,10 @@ shifted-back more bound x y h e = go (ltb (suc x) bound) refl
     go true f =
         let q : some (suc x) ≡ some y = sym (rw f) ∙ e in
         let r : suc x ≡ y = cc in
-        record { within = omega (arith, ltb-true (suc x) bound f); undone = subst (λ (z : ℕ). shifted less bound z ≡ some x) r refl }
+        record {
+          within = omega (arith, ltb-true (suc x) bound f);
+          undone = subst (λ (z : ℕ). shifted less bound z ≡ some x) r refl;
+        }
     go false f = let q : none ≡ some y = sym (rw f) ∙ e in let w : _≡_ {A = ℕ} 0 1 = cc in absurd (omega arith)
 
 -- what a cell number is made of
@@ -138,15 +186,24 @@ module _ (g : Grid) where
       go h = true≢false (sym v ∙ ap (λ (c : ℕ). not (eqb c 0)) (code-outside x h))
 
   -- the neighbour at a known row and column
-  pub neighbour-at : (row col : ℕ) (d : Dir) → col < g .cols → neighbour g (row * g .cols + col) d ≡ cellAt (g .cols) (shifted (rowShift d) (g .rows) row) (shifted (colShift d) (g .cols) col)
+  pub neighbour-at : (row col : ℕ) (d : Dir) → col < g .cols → neighbour g (row * g .cols + col) d ≡ cellAt (g .cols)
+      (shifted (rowShift d) (g .rows) row) (shifted (colShift d) (g .cols) col)
   unfolding neighbour
   neighbour-at row col d h = rw (digits-div row h, digits-mod row h)
 
   -- THERE AND BACK
-  pub neighbour-back : (x : ℕ) (d : Dir) (y : ℕ) → x < places g → neighbour g x d ≡ some y → neighbour g y (opposite d) ≡ some x
+  pub neighbour-back : (x : ℕ) (d : Dir) (y : ℕ) → x < places g → neighbour g x d ≡ some y
+      → neighbour g y (opposite d) ≡ some x
   unfolding neighbour
   neighbour-back x d y h e = subst (λ (z : ℕ). neighbour g z (opposite d) ≡ some x) (j .is-cell)
-      (rw (row-back d, col-back d, digits-div (j .row) (v .within), digits-mod (j .row) (v .within), u .undone, v .undone) (ap some (div-add-mod' x (g .cols))))
+      (rw (
+        row-back d,
+        col-back d,
+        digits-div (j .row) (v .within),
+        digits-mod (j .row) (v .within),
+        u .undone,
+        v .undone,
+      ) (ap some (div-add-mod' x (g .cols))))
     where
       some-cols : 0 < g .cols
       some-cols = elim (decLt 0 (g .cols)) [ yes k ↦ k | no k ↦ absurd (flat (omega arith)) ]
@@ -155,7 +212,8 @@ module _ (g : Grid) where
           flat k = omega (arith, rw k at h)
 
       j : CellIs (g .cols) (shifted (rowShift d) (g .rows) (x / g .cols)) (shifted (colShift d) (g .cols) (x % g .cols)) y
-      j = cell-is (g .cols) (shifted (rowShift d) (g .rows) (x / g .cols)) (shifted (colShift d) (g .cols) (x % g .cols)) y e
+      j = cell-is (g .cols) (shifted (rowShift d) (g .rows) (x / g .cols))
+          (shifted (colShift d) (g .cols) (x % g .cols)) y e
 
       u : Shifted (rowShift d) (g .rows) (x / g .cols) (j .row)
       u = shifted-back (rowShift d) (g .rows) (x / g .cols) (j .row) (div-lt-iff-lt-mul some-cols .1 h) (j .is-row)
@@ -187,7 +245,8 @@ module _ (g : Grid) where
   unfolding next
   next-none x e = rw e
 
-  pub next-is : (y : ℕ) (e : Dir) (x : ℕ) → flow g y ≡ some e → neighbour g y e ≡ some x → ground g x ≡ true → next g y ≡ some (record { cell = x; step = e })
+  pub next-is : (y : ℕ) (e : Dir) (x : ℕ) → flow g y ≡ some e → neighbour g y e ≡ some x → ground g x ≡ true
+      → next g y ≡ some (record { cell = x; step = e })
   next-is y e x f n v = next-along y e f ∙ rw (n, v)
 
   -- the other definitions by cases
@@ -199,7 +258,8 @@ module _ (g : Grid) where
   unfolding inflows
   null-inflows x v = rw v
 
-  pub ground-sub : (outlets : List ℕ) (x : ℕ) → ground g x ≡ true → subaccumulation g outlets x ≡ gathered (inflows g) (λ c. member c outlets) (places g) x
+  pub ground-sub : (outlets : List ℕ) (x : ℕ) → ground g x ≡ true
+      → subaccumulation g outlets x ≡ gathered (inflows g) (λ c. member c outlets) (places g) x
   unfolding subaccumulation
   ground-sub outlets x v = rw v
 

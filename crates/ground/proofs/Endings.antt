@@ -15,8 +15,10 @@ use Rattle.ground.proofs.Walks.{ends-next, ends-zero, ends-none}
 use Rattle.ground.proofs.Network.{Network, total-same}
 use Rattle.ground.proofs.Agreement.{Agrees, agrees-places, fewer-next, noOutlet}
 
-module _ {S : Type 0} (next : ℕ → Option (Link S)) (ups : ℕ → List (Link S)) (ground : ℕ → Bool) (places : ℕ) (𝓝 : Network next ups ground places) where
-  -- where everyCell walk ends within `places` steps, as many steps up are enough: n steps up from what ends in m steps, if n + m is more than `places`
+module _ {S : Type 0} (next : ℕ → Option (Link S)) (ups : ℕ → List (Link S)) (ground : ℕ → Bool) (places : ℕ)
+    (𝓝 : Network next ups ground places) where
+  -- where everyCell walk ends within `places` steps, as many steps up are enough: n steps up from what ends in m steps,
+  -- if n + m is more than `places`
   module _ (free : (x : ℕ) → ground x ≡ true → ends next places x ≡ true) where
     -- the walk from x does not end within m steps
     Long : ℕ → ℕ → Type 0
@@ -28,8 +30,10 @@ module _ {S : Type 0} (next : ℕ → Option (Link S)) (ups : ℕ → List (Link
     long-inflow m x y s e l (suc j) h = ends-next next j y (record { cell = x; step = s }) e ∙ l j (omega arith)
 
     inflows-long : (m x : ℕ) → Long m x → Every (λ k. (ground (k .cell) ≡ true) × Long (suc m) (k .cell)) (ups x)
-    inflows-long m x l = every-map (λ k. next (k .cell) ≡ some (record { cell = x; step = k .step })) (λ k. (ground (k .cell) ≡ true) × Long (suc m) (k .cell))
-        (λ k e. (𝓝 .solid (k .cell) (record { cell = x; step = k .step }) e, long-inflow m x (k .cell) (k .step) e l)) (ups x) (𝓝 .sound x)
+    inflows-long m x l = every-map (λ k. next (k .cell) ≡ some (record { cell = x; step = k .step }))
+        (λ k. (ground (k .cell) ≡ true) × Long (suc m) (k .cell))
+        (λ k e. (𝓝 .solid (k .cell) (record { cell = x; step = k .step }) e, long-inflow m x (k .cell) (k .step) e l))
+        (ups x) (𝓝 .sound x)
 
     never : (m x : ℕ) → ground x ≡ true → Long m x → places < m → ⊥
     unfolding Long
@@ -39,16 +43,20 @@ module _ {S : Type 0} (next : ℕ → Option (Link S)) (ups : ℕ → List (Link
     no-inflows : (m x : ℕ) → Long m x → places ≤ m → (f : ℕ → ℕ) → total ups noOutlet f (ups x) ≡ 0
     no-inflows m x l h f = go (ups x) (inflows-long m x l)
       where
-        go : (ks : List (Link S)) → Every (λ k. (ground (k .cell) ≡ true) × Long (suc m) (k .cell)) ks → total ups noOutlet f ks ≡ 0
+        go : (ks : List (Link S)) → Every (λ k. (ground (k .cell) ≡ true) × Long (suc m) (k .cell)) ks
+            → total ups noOutlet f ks ≡ 0
         go [] s = refl
         go (k ∷ ks) s = absurd (never (suc m) (k .cell) (s .0 .0) (s .0 .1) (omega arith))
 
-    gathered-stable : (n k m x : ℕ) → Long m x → places ≤ n + m → places ≤ k + m → gathered ups noOutlet n x ≡ gathered ups noOutlet k x
+    gathered-stable : (n k m x : ℕ) → Long m x → places ≤ n + m → places ≤ k + m
+        → gathered ups noOutlet n x ≡ gathered ups noOutlet k x
     gathered-stable zero zero m x l h i = refl
     gathered-stable zero (suc k) m x l h i = sym (ap suc (no-inflows m x l (omega arith) (gathered ups noOutlet k)))
     gathered-stable (suc n) zero m x l h i = ap suc (no-inflows m x l (omega arith) (gathered ups noOutlet n))
-    gathered-stable (suc n) (suc k) m x l h i = ap suc (total-same ups noOutlet (gathered ups noOutlet n) (gathered ups noOutlet k) (ups x)
-        (every-map (λ k. (ground (k .cell) ≡ true) × Long (suc m) (k .cell)) (λ j. gathered ups noOutlet n (j .cell) ≡ gathered ups noOutlet k (j .cell))
+    gathered-stable (suc n) (suc k) m x l h i =
+        ap suc (total-same ups noOutlet (gathered ups noOutlet n) (gathered ups noOutlet k) (ups x)
+        (every-map (λ k. (ground (k .cell) ≡ true) × Long (suc m) (k .cell)) (λ j. gathered ups noOutlet n (j .cell)
+        ≡ gathered ups noOutlet k (j .cell))
         (λ j f. gathered-stable n k (suc m) (j .cell) (f .1) (omega arith) (omega arith)) (ups x) (inflows-long m x l)))
 
     -- the accumulation agrees
@@ -63,12 +71,18 @@ module _ {S : Type 0} (next : ℕ → Option (Link S)) (ups : ℕ → List (Link
       where
         go : (o : Option (Link S)) → next x ≡ o → ends next zero x ≡ true
         go none e = ends-none next zero x e
-        go (some k) e = absurd (omega (arith, fewer-next next ups ground places 𝓝 A agrees x k e, agrees-places next ups ground places 𝓝 A agrees (k .cell) (𝓝 .lands x k e)))
+        go (some k) e = absurd (omega (
+          arith,
+          fewer-next next ups ground places 𝓝 A agrees x k e,
+          agrees-places next ups ground places 𝓝 A agrees (k .cell) (𝓝 .lands x k e),
+        ))
     ends-from (suc n) x v h = go (next x) refl (λ y. ends-from n y)
       where
-        go : (o : Option (Link S)) → next x ≡ o → ((y : ℕ) → ground y ≡ true → places ≤ n + A y → ends next n y ≡ true) → ends next (suc n) x ≡ true
+        go : (o : Option (Link S)) → next x ≡ o
+            → ((y : ℕ) → ground y ≡ true → places ≤ n + A y → ends next n y ≡ true) → ends next (suc n) x ≡ true
         go none e ih = ends-none next (suc n) x e
-        go (some k) e ih = ends-next next n x k e ∙ ih (k .cell) (𝓝 .lands x k e) (omega (arith, fewer-next next ups ground places 𝓝 A agrees x k e))
+        go (some k) e ih = ends-next next n x k e
+            ∙ ih (k .cell) (𝓝 .lands x k e) (omega (arith, fewer-next next ups ground places 𝓝 A agrees x k e))
 
     pub agrees-free : (x : ℕ) → ground x ≡ true → ends next places x ≡ true
     agrees-free x v = ends-from places x v (omega arith)

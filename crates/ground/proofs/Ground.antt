@@ -21,15 +21,44 @@ use Rattle.ground.specs.Lists.{In, Every, member, upTo, allBelow, howMan
 use Rattle.ground.specs.Compass.{Dir, SE, stepOf, squares}
 use Rattle.ground.specs.Grid.{Grid, Link, places, ground, next, inflows, inflowRecord}
 use Rattle.ground.specs.Walk.{At, after, ends, Ring, ringFree}
-use Rattle.ground.specs.Accumulation.{total, gathered, balance, agrees, subaccumulation, accumulation, subaccumulations, accumulations}
+use Rattle.ground.specs.Accumulation.{
+  total,
+  gathered,
+  balance,
+  agrees,
+  subaccumulation,
+  accumulation,
+  subaccumulations,
+  accumulations,
+}
 use Rattle.ground.specs.Subwatershed.{firstOutlet, belongs, isOutlet, InSubwatershed, inSubwatershed, HasLength}
 use Rattle.ground.specs.Forest.{size, grow, forest}
 use Rattle.ground.proofs.Lists.{every-map, every-in, all-below, below-all, not-below}
 use Rattle.ground.proofs.Network.{Network, total-same, gathered-size}
-use Rattle.ground.proofs.Agreement.{Agrees, noOutlet, agrees-is, agrees-places, fewer-next, gathered-equation, upstream-equation, upstream-places}
+use Rattle.ground.proofs.Agreement.{
+  Agrees,
+  noOutlet,
+  agrees-is,
+  agrees-places,
+  fewer-next,
+  gathered-equation,
+  upstream-equation,
+  upstream-places,
+}
 use Rattle.ground.proofs.Endings.{free-agrees, agrees-free}
 use Rattle.ground.proofs.Rings.{after-more, no-ring, long-ring}
-use Rattle.ground.proofs.Subwatersheds.{first-meets, meets-first, meets-one, meets-places, first-arrives, arrives-first, arrives-places, belongs-true, true-belongs, count-places}
+use Rattle.ground.proofs.Subwatersheds.{
+  first-meets,
+  meets-first,
+  meets-one,
+  meets-places,
+  first-arrives,
+  arrives-first,
+  arrives-places,
+  belongs-true,
+  true-belongs,
+  count-places,
+}
 use Rattle.ground.proofs.Cells.{ground-sub, null-sub, ground-balance, null-balance}
 use Rattle.ground.proofs.GridNetwork.{network, record-sum}
 
@@ -44,7 +73,8 @@ steps-turn l Diagonal Straight = refl
 steps-turn l Diagonal Diagonal = refl
 
 -- the order of two steps makes no length
-pub squares-turn : (l : Length) (s t : Dir) → plusStep (plusStep l (stepOf s)) (stepOf t) ≡ plusStep (plusStep l (stepOf t)) (stepOf s)
+pub squares-turn : (l : Length) (s t : Dir) → plusStep (plusStep l (stepOf s)) (stepOf t)
+    ≡ plusStep (plusStep l (stepOf t)) (stepOf s)
 squares-turn l s t = steps-turn l (stepOf s) (stepOf t)
 
 length-up : (n : ℕ) → length (upTo n) ≡ n
@@ -60,8 +90,11 @@ grid-at f (suc n) x h = go (eqb x n) refl (grid-at f n x)
     long = length-map (upTo n) f ∙ length-up n
 
     go : (b : Bool) → eqb x n ≡ b → (x < n → getD (map f (upTo n)) x 0 ≡ f x) → getD (map f (upTo n ++ (n ∷ []))) x 0 ≡ f x
-    go true e ih = rw (map-append f (upTo n) (n ∷ [])) (getD-at (map f (upTo n)) (f n) [] 0 x (long ∙ sym (eqb-true x n e)) ∙ ap f (sym (eqb-true x n e)))
-    go false e ih = let k : x < n = below (eqb-false x n e) in rw (map-append f (upTo n) (n ∷ [])) (List·getD-append (map f (upTo n)) (f n ∷ []) 0 x (omega (arith, long)) ∙ ih k)
+    go true e ih = rw (map-append f (upTo n) (n ∷ []))
+        (getD-at (map f (upTo n)) (f n) [] 0 x (long ∙ sym (eqb-true x n e)) ∙ ap f (sym (eqb-true x n e)))
+    go false e ih = let k : x < n = below (eqb-false x n e) in
+        rw (map-append f (upTo n) (n ∷ [])) (List·getD-append (map f (upTo n)) (f n ∷ []) 0 x (omega (arith, long))
+        ∙ ih k)
       where
         below : (x ≡ n → ⊥) → x < n
         below k = omega arith
@@ -73,7 +106,8 @@ module _ (g : Grid) where
   -- RINGS: where the test of check 13 fails there is a ring,
   pub ring-found : ringFree g ≡ false → Ring (next g) (ground g)
   unfolding ringFree
-  ring-found h = let p = not-below (ends (next g) (places g)) (places g) h in long-ring (next g) (inflows g) (ground g) (places g) 𝓝 (p .0) (p .1)
+  ring-found h = let p = not-below (ends (next g) (places g)) (places g) h in
+      long-ring (next g) (inflows g) (ground g) (places g) 𝓝 (p .0) (p .1)
 
   free-ends : ringFree g ≡ true → (x : ℕ) → ground g x ≡ true → ends (next g) (places g) x ≡ true
   unfolding ringFree
@@ -92,12 +126,14 @@ module _ (g : Grid) where
       back f false e = absurd (f (ring-found e))
 
   -- THE EQUATION, as 01 words it, at a cell of ground
-  pub balance-is : (a : List ℕ) (x : ℕ) → ground g x ≡ true → balance g a x ≡ suc (total (inflows g) noOutlet (λ y. getD a y 0) (inflows g x))
+  pub balance-is : (a : List ℕ) (x : ℕ) → ground g x ≡ true
+      → balance g a x ≡ suc (total (inflows g) noOutlet (λ y. getD a y 0) (inflows g x))
   balance-is a x v = ground-balance g a x v ∙ ap suc (record-sum g a x v)
 
   agrees-at : (a : List ℕ) → agrees g a ≡ true → (x : ℕ) → x < places g → getD a x 0 ≡ balance g a x
   unfolding agrees
-  agrees-at a h x i = eqb-true (getD a x 0) (balance g a x) (all-below (λ y. eqb (getD a y 0) (balance g a y)) (places g) h x i)
+  agrees-at a h x i = eqb-true (getD a x 0) (balance g a x)
+      (all-below (λ y. eqb (getD a y 0) (balance g a y)) (places g) h x i)
 
   -- a list that passes check 14 fulfils the equation of the network
   pub lent : (a : List ℕ) → agrees g a ≡ true → Agrees (inflows g) (ground g) (λ x. getD a x 0)
@@ -109,7 +145,8 @@ module _ (g : Grid) where
   agrees-accumulation a h x i = go (ground g x) refl
     where
       go : (b : Bool) → ground g x ≡ b → getD a x 0 ≡ accumulation g x
-      go true v = rw (ground-sub g [] x v) (agrees-is (next g) (inflows g) (ground g) (places g) 𝓝 (λ y. getD a y 0) (lent a h) x v)
+      go true v = rw (ground-sub g [] x v) (agrees-is (next g) (inflows g) (ground g) (places g) 𝓝 (λ y. getD a y 0)
+          (lent a h) x v)
       go false v = rw (null-sub g [] x v) (agrees-at a h x i ∙ null-balance g a x v)
 
   pub agrees-one : (a b : List ℕ) → agrees g a ≡ true → agrees g b ≡ true → (x : ℕ) → x < places g → getD a x 0 ≡ getD b x 0
@@ -120,34 +157,46 @@ module _ (g : Grid) where
   agrees-no-ring a h r = no-ring (next g) (inflows g) (ground g) (places g) 𝓝 (λ x. getD a x 0) (lent a h) r
 
   -- ONE WHERE THERE IS NO RING: the accumulation fulfils the equation
-  free-equation : ringFree g ≡ true → (x : ℕ) → ground g x ≡ true → accumulation g x ≡ suc (total (inflows g) noOutlet (accumulation g) (inflows g x))
+  free-equation : ringFree g ≡ true → (x : ℕ) → ground g x ≡ true
+      → accumulation g x ≡ suc (total (inflows g) noOutlet (accumulation g) (inflows g x))
   unfolding Agrees
-  free-equation h x v = ground-sub g [] x v ∙ free x v ∙ ap suc (total-same (inflows g) noOutlet (gathered (inflows g) noOutlet (places g)) (accumulation g) (inflows g x)
-      (every-map (λ k. next g (k .cell) ≡ some (record { cell = x; step = k .step })) (λ k. gathered (inflows g) noOutlet (places g) (k .cell) ≡ accumulation g (k .cell))
-      (λ k e. sym (ground-sub g [] (k .cell) (𝓝 .solid (k .cell) (record { cell = x; step = k .step }) e))) (inflows g x) (𝓝 .sound x)))
+  free-equation h x v = ground-sub g [] x v ∙ free x v
+      ∙ ap suc (total-same (inflows g) noOutlet (gathered (inflows g) noOutlet (places g)) (accumulation g) (inflows g x)
+      (every-map (λ k. next g (k .cell) ≡ some (record { cell = x; step = k .step }))
+      (λ k. gathered (inflows g) noOutlet (places g) (k .cell) ≡ accumulation g (k .cell))
+      (λ k e. sym (ground-sub g [] (k .cell) (𝓝 .solid (k .cell) (record { cell = x; step = k .step }) e)))
+      (inflows g x) (𝓝 .sound x)))
     where
       free : Agrees (inflows g) (ground g) (gathered (inflows g) noOutlet (places g))
       free = free-agrees (next g) (inflows g) (ground g) (places g) 𝓝 (free-ends h)
 
   pub free-agree : ringFree g ≡ true → agrees g (accumulations g) ≡ true
   unfolding agrees
-  free-agree h = below-all (λ x. eqb (getD (accumulations g) x 0) (balance g (accumulations g) x)) (places g) (λ x i. eq-eqb (getD (accumulations g) x 0) (balance g (accumulations g) x) (at x i (ground g x) refl))
+  free-agree h = below-all (λ x. eqb (getD (accumulations g) x 0) (balance g (accumulations g) x)) (places g)
+      (λ x i. eq-eqb (getD (accumulations g) x 0) (balance g (accumulations g) x) (at x i (ground g x) refl))
     where
-      same : (x : ℕ) → total (inflows g) noOutlet (accumulation g) (inflows g x) ≡ total (inflows g) noOutlet (λ y. getD (accumulations g) y 0) (inflows g x)
+      same : (x : ℕ) → total (inflows g) noOutlet (accumulation g) (inflows g x) ≡ total (inflows g) noOutlet
+          (λ y. getD (accumulations g) y 0) (inflows g x)
       same x = total-same (inflows g) noOutlet (accumulation g) (λ y. getD (accumulations g) y 0) (inflows g x)
-          (every-map (λ k. next g (k .cell) ≡ some (record { cell = x; step = k .step })) (λ k. accumulation g (k .cell) ≡ getD (accumulations g) (k .cell) 0)
-          (λ k e. sym (grid-at (accumulation g) (places g) (k .cell) (𝓝 .bounded (k .cell) (𝓝 .solid (k .cell) (record { cell = x; step = k .step }) e)))) (inflows g x) (𝓝 .sound x))
+          (every-map (λ k. next g (k .cell) ≡ some (record { cell = x; step = k .step }))
+          (λ k. accumulation g (k .cell) ≡ getD (accumulations g) (k .cell) 0)
+          (λ k e. sym (grid-at (accumulation g) (places g) (k .cell)
+          (𝓝 .bounded (k .cell) (𝓝 .solid (k .cell) (record { cell = x; step = k .step }) e)))) (inflows g x)
+          (𝓝 .sound x))
 
       at : (x : ℕ) → x < places g → (b : Bool) → ground g x ≡ b → getD (accumulations g) x 0 ≡ balance g (accumulations g) x
-      at x i true v = grid-at (accumulation g) (places g) x i ∙ free-equation h x v ∙ ap suc (same x) ∙ sym (balance-is (accumulations g) x v)
-      at x i false v = grid-at (accumulation g) (places g) x i ∙ null-sub g [] x v ∙ sym (null-balance g (accumulations g) x v)
+      at x i true v = grid-at (accumulation g) (places g) x i ∙ free-equation h x v ∙ ap suc (same x)
+          ∙ sym (balance-is (accumulations g) x v)
+      at x i false v = grid-at (accumulation g) (places g) x i ∙ null-sub g [] x v
+          ∙ sym (null-balance g (accumulations g) x v)
 
   -- so check 13 and check 14 ask the same: some list agrees exactly if the grid is free of rings
   pub agrees-free-of-rings : (a : List ℕ) → agrees g a ≡ true → ringFree g ≡ true
   agrees-free-of-rings a h = ring-free .1 (agrees-no-ring a h)
 
   -- no cell is in the subwatersheds of two outlets, on any grid
-  pub disjoint : (outlets : List ℕ) (o p c : ℕ) → member o outlets ≡ true → member p outlets ≡ true → InSubwatershed g outlets o c → InSubwatershed g outlets p c → o ≡ p
+  pub disjoint : (outlets : List ℕ) (o p c : ℕ) → member o outlets ≡ true → member p outlets ≡ true
+      → InSubwatershed g outlets o c → InSubwatershed g outlets p c → o ≡ p
   disjoint outlets o p c u v m n = meets-one squares (next g) (λ x. member x outlets) o p c u v m n
 
   module _ (a : List ℕ) (h : agrees g a ≡ true) where
@@ -161,11 +210,17 @@ module _ (g : Grid) where
 
     module _ (outlets : List ℕ) where
       -- SUBACCUMULATION: 1 and the sum over the inflows, outlets left out
-      pub sub-equation : (x : ℕ) → ground g x ≡ true → subaccumulation g outlets x ≡ suc (total (inflows g) (isOutlet g outlets) (subaccumulation g outlets) (inflows g x))
-      sub-equation x v = ground-sub g outlets x v ∙ gathered-equation (next g) (inflows g) (ground g) (places g) 𝓝 (λ y. getD a y 0) (lent a h) (isOutlet g outlets) x v
-          ∙ ap suc (total-same (inflows g) (isOutlet g outlets) (gathered (inflows g) (isOutlet g outlets) (places g)) (subaccumulation g outlets) (inflows g x)
-          (every-map (λ k. next g (k .cell) ≡ some (record { cell = x; step = k .step })) (λ k. gathered (inflows g) (isOutlet g outlets) (places g) (k .cell) ≡ subaccumulation g outlets (k .cell))
-          (λ k e. sym (ground-sub g outlets (k .cell) (𝓝 .solid (k .cell) (record { cell = x; step = k .step }) e))) (inflows g x) (𝓝 .sound x)))
+      pub sub-equation : (x : ℕ) → ground g x ≡ true
+          → subaccumulation g outlets x ≡ suc (total (inflows g) (isOutlet g outlets) (subaccumulation g outlets)
+          (inflows g x))
+      sub-equation x v = ground-sub g outlets x v ∙ gathered-equation (next g) (inflows g) (ground g) (places g) 𝓝
+          (λ y. getD a y 0) (lent a h) (isOutlet g outlets) x v
+          ∙ ap suc (total-same (inflows g) (isOutlet g outlets) (gathered (inflows g) (isOutlet g outlets) (places g))
+          (subaccumulation g outlets) (inflows g x)
+          (every-map (λ k. next g (k .cell) ≡ some (record { cell = x; step = k .step }))
+          (λ k. gathered (inflows g) (isOutlet g outlets) (places g) (k .cell) ≡ subaccumulation g outlets (k .cell))
+          (λ k e. sym (ground-sub g outlets (k .cell) (𝓝 .solid (k .cell) (record { cell = x; step = k .step }) e)))
+          (inflows g x) (𝓝 .sound x)))
 
       -- it is the number of cells of the forest and the cell itself
       pub sub-size : (x : ℕ) → ground g x ≡ true → subaccumulation g outlets x ≡ suc (size (forest g outlets x))
@@ -174,12 +229,15 @@ module _ (g : Grid) where
 
       pub sub-places : (x : ℕ) → ground g x ≡ true → subaccumulation g outlets x ≤ places g
       unfolding forest
-      sub-places x v = rw (sub-size x v) (upstream-places (next g) (inflows g) (ground g) (places g) 𝓝 (λ y. getD a y 0) (lent a h) (isOutlet g outlets) (places g) x v)
+      sub-places x v = rw (sub-size x v) (upstream-places (next g) (inflows g) (ground g) (places g) 𝓝
+          (λ y. getD a y 0) (lent a h) (isOutlet g outlets) (places g) x v)
 
       -- the forest above a cell: its inflows in order, outlets left out, each with the forest above it
-      pub forest-equation : (x : ℕ) → ground g x ≡ true → forest g outlets x ≡ grow (inflows g) (isOutlet g outlets) (forest g outlets) (inflows g x)
+      pub forest-equation : (x : ℕ) → ground g x ≡ true → forest g outlets x ≡ grow (inflows g) (isOutlet g outlets)
+          (forest g outlets) (inflows g x)
       unfolding forest
-      forest-equation x v = upstream-equation (next g) (inflows g) (ground g) (places g) 𝓝 (λ y. getD a y 0) (lent a h) (isOutlet g outlets) x v
+      forest-equation x v = upstream-equation (next g) (inflows g) (ground g) (places g) 𝓝 (λ y. getD a y 0)
+          (lent a h) (isOutlet g outlets) x v
 
       module _ (o : ℕ) (listed : member o outlets ≡ true) (v : ground g o ≡ true) where
         -- THE SUBWATERSHED: 01's words and the test of check 22 are the same
@@ -189,20 +247,29 @@ module _ (g : Grid) where
           where
             there : InSubwatershed g outlets o c → inSubwatershed g outlets o c ≡ true
             there m =
-                let r = meets-first squares (next g) (isOutlet g outlets) (places g) o c listed m (meets-places squares (next g) (isOutlet g outlets) (inflows g) (ground g) (places g) 𝓝 (λ x. getD a x 0) (lent a h) o c v m) in
+                let r = meets-first squares (next g) (isOutlet g outlets) (places g) o c listed m
+                (meets-places squares (next g) (isOutlet g outlets) (inflows g) (ground g) (places g) 𝓝
+                (λ x. getD a x 0) (lent a h) o c v m) in
                 belongs-true squares (next g) (isOutlet g outlets) (places g) o c (r .0) (r .1)
 
             back : inSubwatershed g outlets o c ≡ true → InSubwatershed g outlets o c
-            back e = let r = true-belongs squares (next g) (isOutlet g outlets) (places g) o c e in first-meets squares (next g) (isOutlet g outlets) (places g) c (record { cell = o; len = r .0 }) (r .1)
+            back e = let r = true-belongs squares (next g) (isOutlet g outlets) (places g) o c e in
+                first-meets squares (next g) (isOutlet g outlets) (places g) c (record { cell = o; len = r .0 }) (r .1)
 
         -- "An outlet's subaccumulation is the number of these cells."
         pub sub-cells : howMany (inSubwatershed g outlets o) (places g) ≡ subaccumulation g outlets o
         unfolding forest inSubwatershed
-        sub-cells = count-places squares (next g) (isOutlet g outlets) (inflows g) (ground g) (places g) 𝓝 (λ x. getD a x 0) (lent a h) o listed v (places g) ∙ sym (sub-size o v)
+        sub-cells = count-places squares (next g) (isOutlet g outlets) (inflows g) (ground g) (places g) 𝓝
+            (λ x. getD a x 0) (lent a h) o listed v (places g) ∙ sym (sub-size o v)
 
         -- THE LENGTH: what the walk's state holds on arrival is what `firstOutlet` gives
-        pub length-first : (c : ℕ) (l : Length) → HasLength g outlets o c l ↔ (firstOutlet squares (next g) (isOutlet g outlets) (places g) c ≡ some (record { cell = o; len = l }))
+        pub length-first : (c : ℕ) (l : Length)
+            → HasLength g outlets o c l ↔ (firstOutlet squares (next g) (isOutlet g outlets) (places g) c
+            ≡ some (record { cell = o; len = l }))
         length-first c l = (
-          λ p. arrives-first squares (next g) (isOutlet g outlets) squares-turn (places g) o (record { cell = c; len = l }) listed p (arrives-places squares (next g) (isOutlet g outlets) (inflows g) (ground g) (places g) 𝓝 (λ x. getD a x 0) (lent a h) o (record { cell = c; len = l }) v p),
-          λ e. first-arrives squares (next g) (isOutlet g outlets) squares-turn (places g) c (record { cell = o; len = l }) e,
+          λ p. arrives-first squares (next g) (isOutlet g outlets) squares-turn (places g) o
+              (record { cell = c; len = l }) listed p (arrives-places squares (next g) (isOutlet g outlets)
+              (inflows g) (ground g) (places g) 𝓝 (λ x. getD a x 0) (lent a h) o (record { cell = c; len = l }) v p),
+          λ e. first-arrives squares (next g) (isOutlet g outlets) squares-turn (places g) c
+              (record { cell = o; len = l }) e,
         )

@@ -57,7 +57,8 @@ every-in P a [] h i = absurd i
 every-in P a (x ∷ xs) h (inl e) = rw e (h .0)
 every-in P a (x ∷ xs) h (inr i) = every-in P a xs (h .1) i
 
-pub sorted-append : {A : Type 0} (R : A → A → Type 0) (xs ys : List A) → Sorted R xs → Sorted R ys → Every (λ x. Every (R x) ys) xs → Sorted R (xs ++ ys)
+pub sorted-append : {A : Type 0} (R : A → A → Type 0) (xs ys : List A) → Sorted R xs → Sorted R ys
+    → Every (λ x. Every (R x) ys) xs → Sorted R (xs ++ ys)
 sorted-append R [] ys h i k = i
 sorted-append R (x ∷ xs) ys h i k = (every-append (R x) xs ys (h .0) (k .0), sorted-append R xs ys (h .1) i (k .1))
 
@@ -78,7 +79,8 @@ sorted-only R f (x ∷ xs) h = go (f x) (sorted-only R f xs (h .1))
     go false i = i
 
 -- each pair of members may be looked at
-pub sorted-with : {A : Type 0} (R Q : A → A → Type 0) (P : A → Type 0) → ((x y : A) → P x → P y → R x y → Q x y) → (xs : List A) → Every P xs → Sorted R xs → Sorted Q xs
+pub sorted-with : {A : Type 0} (R Q : A → A → Type 0) (P : A → Type 0) → ((x y : A) → P x → P y → R x y → Q x y)
+    → (xs : List A) → Every P xs → Sorted R xs → Sorted Q xs
 sorted-with R Q P f [] p h = tt
 sorted-with R Q P f (x ∷ xs) p h = (both xs (p .1) (h .0), sorted-with R Q P f xs (p .1) (h .1))
   where
@@ -90,7 +92,8 @@ pub every-over : {A B : Type 0} (f : A → B) (P : B → Type 0) (xs : List A) �
 every-over f P [] h = tt
 every-over f P (x ∷ xs) h = (h .0, every-over f P xs (h .1))
 
-pub sorted-over : {A B : Type 0} (f : A → B) (R : B → B → Type 0) (xs : List A) → Sorted (λ x y. R (f x) (f y)) xs → Sorted R (map f xs)
+pub sorted-over : {A B : Type 0} (f : A → B) (R : B → B → Type 0) (xs : List A) → Sorted (λ x y. R (f x) (f y)) xs
+    → Sorted R (map f xs)
 sorted-over f R [] h = tt
 sorted-over f R (x ∷ xs) h = (every-over f (R (f x)) xs (h .0), sorted-over f R xs (h .1))
 
@@ -99,12 +102,15 @@ every-is P [] h = tt
 every-is P (x ∷ xs) h = (h x (inl refl), every-is P xs (λ y i. h y (inr i)))
 
 -- two lists with the same members, both sorted by an order that never goes both ways, are the same
-pub same-sorted : {A : Type 0} (R : A → A → Type 0) → ((x y : A) → R x y → R y x → ⊥) → (xs ys : List A) → Sorted R xs → Sorted R ys
+pub same-sorted : {A : Type 0} (R : A → A → Type 0) → ((x y : A) → R x y → R y x → ⊥) → (xs ys : List A) → Sorted R xs
+    → Sorted R ys
     → ((a : A) → In a xs → In a ys) → ((a : A) → In a ys → In a xs) → xs ≡ ys
 same-sorted R asym [] [] h i f g = refl
 same-sorted R asym [] (y ∷ ys) h i f g = absurd (g y (inl refl))
 same-sorted R asym (x ∷ xs) [] h i f g = absurd (f x (inl refl))
-same-sorted R asym (x ∷ xs) (y ∷ ys) h i f g = ap₂ _∷_ heads (same-sorted R asym xs ys (h .1) (i .1) (λ a m. tail-f a m (f a (inr m))) (λ a m. tail-g a m (g a (inr m))))
+same-sorted R asym (x ∷ xs) (y ∷ ys) h i f g =
+    ap₂ _∷_ heads (same-sorted R asym xs ys (h .1) (i .1) (λ a m. tail-f a m (f a (inr m)))
+    (λ a m. tail-g a m (g a (inr m))))
   where
     heads-of : In x (y ∷ ys) → In y (x ∷ xs) → x ≡ y
     heads-of (inl e) n = e
@@ -115,11 +121,13 @@ same-sorted R asym (x ∷ xs) (y ∷ ys) h i f g = ap₂ _∷_ heads (same-sorte
     heads = heads-of (f x (inl refl)) (g y (inl refl))
 
     tail-f : (a : _) → In a xs → In a (y ∷ ys) → In a ys
-    tail-f a m (inl e) = let r : R x a = every-in (R x) a xs (h .0) m in let r′ : R a a = subst (λ z. R z a) (heads ∙ sym e) r in absurd (asym a a r′ r′)
+    tail-f a m (inl e) = let r : R x a = every-in (R x) a xs (h .0) m in
+        let r′ : R a a = subst (λ z. R z a) (heads ∙ sym e) r in absurd (asym a a r′ r′)
     tail-f a m (inr n) = n
 
     tail-g : (a : _) → In a ys → In a (x ∷ xs) → In a xs
-    tail-g a m (inl e) = let r : R y a = every-in (R y) a ys (i .0) m in let r′ : R a a = subst (λ z. R z a) (sym heads ∙ sym e) r in absurd (asym a a r′ r′)
+    tail-g a m (inl e) = let r : R y a = every-in (R y) a ys (i .0) m in
+        let r′ : R a a = subst (λ z. R z a) (sym heads ∙ sym e) r in absurd (asym a a r′ r′)
     tail-g a m (inr n) = n
 
 -- what it is to be in `only f xs`
@@ -127,7 +135,8 @@ pub in-only : {A : Type 0} (f : A → Bool) (a : A) (xs : List A) → In a (only
 in-only f a [] i = absurd i
 in-only f a (x ∷ xs) i = go (f x) refl (in-only f a xs) i
   where
-    go : (b : Bool) → f x ≡ b → (In a (only f xs) → In a xs × (f a ≡ true)) → In a (keepIf b x (only f xs)) → In a (x ∷ xs) × (f a ≡ true)
+    go : (b : Bool) → f x ≡ b → (In a (only f xs) → In a xs × (f a ≡ true)) → In a (keepIf b x (only f xs))
+        → In a (x ∷ xs) × (f a ≡ true)
     go true e ih (inl q) = (inl q, ap f q ∙ e)
     go true e ih (inr j) = (inr (ih j .0), ih j .1)
     go false e ih j = (inr (ih j .0), ih j .1)
@@ -150,7 +159,8 @@ pub all-below : (f : ℕ → Bool) (n : ℕ) → allBelow f n ≡ true → (x : 
 all-below f zero h x i = absurd (omega arith)
 all-below f (suc n) h x i = go (eqb x n) refl (and-both (f n) (allBelow f n) h) (all-below f n)
   where
-    go : (b : Bool) → eqb x n ≡ b → (f n ≡ true) × (allBelow f n ≡ true) → (allBelow f n ≡ true → (x : ℕ) → x < n → f x ≡ true) → f x ≡ true
+    go : (b : Bool) → eqb x n ≡ b → (f n ≡ true) × (allBelow f n ≡ true)
+        → (allBelow f n ≡ true → (x : ℕ) → x < n → f x ≡ true) → f x ≡ true
     go true e p ih = ap f (eqb-true x n e) ∙ p .0
     go false e p ih = ih (p .1) x (below (eqb-false x n e))
       where

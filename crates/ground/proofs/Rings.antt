@@ -16,16 +16,23 @@ use Rattle.ground.proofs.Walks.{ends-next, ends-none, after-next, after
 use Rattle.ground.proofs.Network.{Network}
 use Rattle.ground.proofs.Agreement.{Agrees, fewer-next}
 
-module _ {S : Type 0} (next : ℕ → Option (Link S)) (ups : ℕ → List (Link S)) (ground : ℕ → Bool) (places : ℕ) (𝓝 : Network next ups ground places) where
+module _ {S : Type 0} (next : ℕ → Option (Link S)) (ups : ℕ → List (Link S)) (ground : ℕ → Bool) (places : ℕ)
+    (𝓝 : Network next ups ground places) where
   -- where an accumulation agrees, it grows along a walk
   module _ (A : ℕ → ℕ) (agrees : Agrees ups ground A) where
     pub after-more : (k c x : ℕ) → after next k c ≡ some x → A c + k ≤ A x
-    after-more zero c x e = let p : some c ≡ some x = sym (after-zero next c) ∙ e in let q : c ≡ x = cc in omega (arith, ap A q)
+    after-more zero c x e = let p : some c ≡ some x = sym (after-zero next c) ∙ e in let q : c ≡ x = cc in
+        omega (arith, ap A q)
     after-more (suc k) c x e = go (next c) refl (λ c′. after-more k c′ x)
       where
         go : (o : Option (Link S)) → next c ≡ o → ((c′ : ℕ) → after next k c′ ≡ some x → A c′ + k ≤ A x) → A c + suc k ≤ A x
-        go none f ih = let p : none ≡ some x = sym (after-end next k c f) ∙ e in let w : _≡_ {A = ℕ} 0 1 = cc in absurd (omega arith)
-        go (some h) f ih = omega (arith, fewer-next next ups ground places 𝓝 A agrees c h f, ih (h .cell) (sym (after-next next k c h f) ∙ e))
+        go none f ih = let p : none ≡ some x = sym (after-end next k c f) ∙ e in let w : _≡_ {A = ℕ} 0 1 = cc in
+            absurd (omega arith)
+        go (some h) f ih = omega (
+          arith,
+          fewer-next next ups ground places 𝓝 A agrees c h f,
+          ih (h .cell) (sym (after-next next k c h f) ∙ e),
+        )
 
     pub no-ring : Ring next ground → ⊥
     no-ring r = omega (arith, after-more (r .turns) (r .cell) (r .cell) (r .returns), r .moves)
@@ -54,10 +61,13 @@ module _ {S : Type 0} (next : ℕ → Option (Link S)) (ups : ℕ → List (Link
       go false e = absurd (omega (arith, one-other x c (eqb-false x c e)))
   seen-after (suc n) x c h = go (eqb x c) refl (next x) refl (λ y. seen-after n y c)
     where
-      go : (b : Bool) → eqb x c ≡ b → (o : Option (Link S)) → next x ≡ o → ((y : ℕ) → 0 < seen n y c → (k : ℕ) × (after next k y ≡ some c)) → (k : ℕ) × (after next k x ≡ some c)
+      go : (b : Bool) → eqb x c ≡ b → (o : Option (Link S)) → next x ≡ o
+          → ((y : ℕ) → 0 < seen n y c → (k : ℕ) × (after next k y ≡ some c)) → (k : ℕ) × (after next k x ≡ some c)
       go true e o f ih = (0, after-zero next x ∙ ap some (eqb-true x c e))
       go false e none f ih = absurd (omega (arith, one-other x c (eqb-false x c e), seen-end (suc n) x c f))
-      go false e (some l) f ih = let p = ih (l .cell) (omega (arith, one-other x c (eqb-false x c e), seen-next n x c l f)) in (suc (p .0), after-next next (p .0) x l f ∙ p .1)
+      go false e (some l) f ih = let p =
+          ih (l .cell) (omega (arith, one-other x c (eqb-false x c e), seen-next n x c l f)) in
+          (suc (p .0), after-next next (p .0) x l f ∙ p .1)
 
   -- a walk of n steps sees n + 1 cells
   walk-long : (n x : ℕ) → ground x ≡ true → ends next n x ≡ false → sumTo places (seen n x) ≡ suc n
@@ -65,9 +75,16 @@ module _ {S : Type 0} (next : ℕ → Option (Link S)) (ups : ℕ → List (Link
   walk-long zero x v e = sum-one places x (𝓝 .bounded x v)
   walk-long (suc n) x v e = go (next x) refl (λ y. walk-long n y)
     where
-      go : (o : Option (Link S)) → next x ≡ o → ((y : ℕ) → ground y ≡ true → ends next n y ≡ false → sumTo places (seen n y) ≡ suc n) → sumTo places (seen (suc n) x) ≡ suc (suc n)
+      go : (o : Option (Link S)) → next x ≡ o → ((y : ℕ) → ground y ≡ true → ends next n y ≡ false
+          → sumTo places (seen n y) ≡ suc n) → sumTo places (seen (suc n) x) ≡ suc (suc n)
       go none f ih = absurd (true≢false (sym (ends-none next (suc n) x f) ∙ e))
-      go (some h) f ih = ap (sumTo places) (fun-ext (λ c. seen-next n x c h f)) ∙ omega (arith, sum-add places (one x) (seen n (h .cell)), sum-one places x (𝓝 .bounded x v), ih (h .cell) (𝓝 .lands x h f) (sym (ends-next next n x h f) ∙ e))
+      go (some h) f ih = ap (sumTo places) (fun-ext (λ c. seen-next n x c h f))
+          ∙ omega (
+            arith,
+            sum-add places (one x) (seen n (h .cell)),
+            sum-one places x (𝓝 .bounded x v),
+            ih (h .cell) (𝓝 .lands x h f) (sym (ends-next next n x h f) ∙ e),
+          )
 
   -- a cell that is seen twice is come back to
   seen-twice : (n x c : ℕ) → ground x ≡ true → 1 < seen n x c → Ring next ground
@@ -75,12 +92,21 @@ module _ {S : Type 0} (next : ℕ → Option (Link S)) (ups : ℕ → List (Link
   seen-twice zero x c v i = absurd (omega (arith, one-le x c))
   seen-twice (suc n) x c v i = go (eqb x c) refl (next x) refl (λ y. seen-twice n y c)
     where
-      go : (b : Bool) → eqb x c ≡ b → (o : Option (Link S)) → next x ≡ o → ((y : ℕ) → ground y ≡ true → 1 < seen n y c → Ring next ground) → Ring next ground
+      go : (b : Bool) → eqb x c ≡ b → (o : Option (Link S)) → next x ≡ o
+          → ((y : ℕ) → ground y ≡ true → 1 < seen n y c → Ring next ground) → Ring next ground
       go b e none f ih = absurd (omega (arith, one-le x c, seen-end (suc n) x c f))
-      go false e (some h) f ih = ih (h .cell) (𝓝 .lands x h f) (omega (arith, one-other x c (eqb-false x c e), seen-next n x c h f))
+      go false e (some h) f ih =
+          ih (h .cell) (𝓝 .lands x h f) (omega (arith, one-other x c (eqb-false x c e), seen-next n x c h f))
       go true e (some h) f ih =
           let p = seen-after n (h .cell) c (omega (arith, one-le x c, seen-next n x c h f)) in
-          record { cell = x; is-ground = v; turns = suc (p .0); moves = omega arith; returns = after-next next (p .0) x h f ∙ p .1 ∙ ap some (sym (eqb-true x c e)) }
+          record {
+            cell = x;
+            is-ground = v;
+            turns = suc (p .0);
+            moves = omega arith;
+            returns = after-next next
+                (p .0) x h f ∙ p .1 ∙ ap some (sym (eqb-true x c e));
+          }
 
   -- a walk that does not end within as many steps as there are places comes back to a cell
   pub long-ring : (x : ℕ) → ends next places x ≡ false → Ring next ground
@@ -88,14 +114,21 @@ module _ {S : Type 0} (next : ℕ → Option (Link S)) (ups : ℕ → List (Link
     where
       go : (o : Option (Link S)) → next x ≡ o → Ring next ground
       go none f = absurd (true≢false (sym (ends-none next places x f) ∙ e))
-      go (some h) f = let v = 𝓝 .solid x h f in let p = sum-more places (seen places x) (omega (arith, walk-long places x v e)) in seen-twice places x (p .0) v (p .1)
+      go (some h) f = let v = 𝓝 .solid x h f in
+          let p = sum-more places (seen places x) (omega (arith, walk-long places x v e)) in
+          seen-twice places x (p .0) v (p .1)
 
   -- a walk that is at one cell after j steps and again after m has a ring: it need not begin on it
-  pub come-back : (j m c x : ℕ) → ground c ≡ true → j < m → after next j c ≡ some x → after next m c ≡ some x → Ring next ground
+  pub come-back : (j m c x : ℕ) → ground c ≡ true → j < m → after next j c ≡ some x → after next m c ≡ some x
+      → Ring next ground
   come-back j zero c x v i e f = absurd (omega arith)
-  come-back zero (suc m) c x v i e f = let p : some c ≡ some x = sym (after-zero next c) ∙ e in record { cell = c; is-ground = v; turns = suc m; moves = omega arith; returns = f ∙ sym p }
+  come-back zero (suc m) c x v i e f = let p : some c ≡ some x = sym (after-zero next c) ∙ e in
+      record { cell = c; is-ground = v; turns = suc m; moves = omega arith; returns = f ∙ sym p }
   come-back (suc j) (suc m) c x v i e f = go (next c) refl (λ c′. come-back j m c′ x)
     where
-      go : (t : Option (Link S)) → next c ≡ t → ((c′ : ℕ) → ground c′ ≡ true → j < m → after next j c′ ≡ some x → after next m c′ ≡ some x → Ring next ground) → Ring next ground
-      go none g ih = let p : none ≡ some x = sym (after-end next j c g) ∙ e in let w : _≡_ {A = ℕ} 0 1 = cc in absurd (omega arith)
-      go (some h) g ih = ih (h .cell) (𝓝 .lands c h g) (omega arith) (sym (after-next next j c h g) ∙ e) (sym (after-next next m c h g) ∙ f)
+      go : (t : Option (Link S)) → next c ≡ t → ((c′ : ℕ) → ground c′ ≡ true → j < m → after next j c′ ≡ some x
+          → after next m c′ ≡ some x → Ring next ground) → Ring next ground
+      go none g ih = let p : none ≡ some x = sym (after-end next j c g) ∙ e in let w : _≡_ {A = ℕ} 0 1 = cc in
+          absurd (omega arith)
+      go (some h) g ih = ih (h .cell) (𝓝 .lands c h g) (omega arith) (sym (after-next next j c h g) ∙ e)
+          (sym (after-next next m c h g) ∙ f)

@@ -25,7 +25,8 @@ module _ {S : Type 0} (next : ℕ → Option (Link S)) where
 module _ {S : Type 0} (𝓛 : Lengths S) (next : ℕ → Option (Link S)) where
   open Lengths 𝓛 using (Len, start, _▹_)
 
-  pub stride-next : (w : At Len) (h : Link S) → next (w .cell) ≡ some h → stride 𝓛 next w ≡ some (record { cell = h .cell; len = w .len ▹ h .step })
+  pub stride-next : (w : At Len) (h : Link S) → next (w .cell) ≡ some h
+      → stride 𝓛 next w ≡ some (record { cell = h .cell; len = w .len ▹ h .step })
   unfolding stride
   stride-next w h e = rw (e, stride)
 
@@ -33,7 +34,8 @@ module _ {S : Type 0} (𝓛 : Lengths S) (next : ℕ → Option (Link S)) where
   unfolding stride
   stride-end w e = rw (e, stride)
 
-  pub strides-next : (k : ℕ) (w : At Len) (h : Link S) → next (w .cell) ≡ some h → strides 𝓛 next (suc k) w ≡ strides 𝓛 next k (record { cell = h .cell; len = w .len ▹ h .step })
+  pub strides-next : (k : ℕ) (w : At Len) (h : Link S) → next (w .cell) ≡ some h
+      → strides 𝓛 next (suc k) w ≡ strides 𝓛 next k (record { cell = h .cell; len = w .len ▹ h .step })
   unfolding strides
   strides-next k w h e = rw (stride-next w h e, strides)
 
@@ -60,6 +62,8 @@ module _ (next : ℕ → Option (Link Dir)) (outlet : ℕ → Bool) where
   route-out zero c e = refl
   route-out (suc n) c e = rw (e, descent)
 
-  pub route-next : (n c : ℕ) (h : Link Dir) → outlet c ≡ false → next c ≡ some h → route next outlet (suc n) c ≡ route next outlet n (h .cell) ++ (opposite (h .step) ∷ [])
+  pub route-next : (n c : ℕ) (h : Link Dir) → outlet c ≡ false → next c ≡ some h
+      → route next outlet (suc n) c ≡ route next outlet n (h .cell) ++ (opposite (h .step) ∷ [])
   unfolding route descent
-  route-next n c h e f = rw (e, f, descent) (reverse-cons (opposite (h .step)) (map opposite (descent next outlet n (h .cell))))
+  route-next n c h e f = rw (e, f, descent)
+      (reverse-cons (opposite (h .step)) (map opposite (descent next outlet n (h .cell))))

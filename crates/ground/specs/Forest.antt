@@ -23,7 +23,10 @@ size (tree c s above rest) = suc (size above + size rest)
 module _ {S : Type 0} (ups : ℕ → List (Link S)) (outlet : ℕ → Bool) where
   abbrev pub grow : (ℕ → Forest S) → List (Link S) → Forest S
   grow f [] = bare
-  grow f (k ∷ ks) = elim (outlet (k .cell)) [ true ↦ grow f ks | false ↦ tree (k .cell) (k .step) (f (k .cell)) (grow f ks) ]
+  grow f (k ∷ ks) = elim (outlet (k .cell)) [
+    | true ↦ grow f ks
+    | false ↦ tree (k .cell) (k .step) (f (k .cell)) (grow f ks)
+  ]
 
   -- what lies above a cell, at most n steps up
   abbrev pub upstream : ℕ → ℕ → Forest S
@@ -43,7 +46,8 @@ module _ {S : Type 0} (𝓛 : Lengths S) where
   -- the cells above a cell at length d, a cell before what lies above it
   abbrev pub cellsAbove : Which S → Len → Forest S → List (At Len)
   cellsAbove w d bare = []
-  cellsAbove w d (tree c s above rest) = keepIf (w c above) (record { cell = c; len = d ▹ s }) (cellsAbove w (d ▹ s) above ++ cellsAbove w d rest)
+  cellsAbove w d (tree c s above rest) = keepIf (w c above) (record { cell = c; len = d ▹ s })
+      (cellsAbove w (d ▹ s) above ++ cellsAbove w d rest)
 
   -- the same with the outlet
   abbrev pub cellsFrom : Which S → ℕ → Forest S → List (At Len)

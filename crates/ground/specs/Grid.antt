@@ -44,7 +44,9 @@ module _ (g : Grid) where
 
   -- the neighbour in a direction, if it is on the grid: by row and column, and never by the cell number alone
   unfoldable pub neighbour : ℕ → Dir → Option ℕ
-  neighbour x d = cellAt (g .cols) (shifted (rowShift d) (g .rows) (x / g .cols)) (shifted (colShift d) (g .cols) (x % g .cols))
+  neighbour x d = cellAt (g .cols)
+      (shifted (rowShift d) (g .rows) (x / g .cols))
+      (shifted (colShift d) (g .cols) (x % g .cols))
 
   -- the direction that a cell's code points in
   abbrev pub flow : ℕ → Option Dir

@@ -25,12 +25,18 @@ module _ {S : Type 0} (step : ℕ → Option (Link S)) (outlet : ℕ → Bool) w
   -- the steps of the walk from c to its first outlet, at most n
   unfoldable pub descent : ℕ → ℕ → List S
   descent zero c = []
-  descent (suc n) c = elim (outlet c) [ true ↦ [] | false ↦ elim (step c) [ none ↦ [] | some h ↦ h .step ∷ descent n (h .cell) ] ]
+  descent (suc n) c = elim (outlet c) [
+    | true ↦ []
+    | false ↦ elim (step c) [ none ↦ [] | some h ↦ h .step ∷ descent n (h .cell) ]
+  ]
 
   -- the cells of that walk, the start and the outlet with it
   unfoldable pub walked : ℕ → ℕ → List ℕ
   walked zero c = c ∷ []
-  walked (suc n) c = elim (outlet c) [ true ↦ c ∷ [] | false ↦ elim (step c) [ none ↦ c ∷ [] | some h ↦ c ∷ walked n (h .cell) ] ]
+  walked (suc n) c = elim (outlet c) [
+    | true ↦ c ∷ []
+    | false ↦ elim (step c) [ none ↦ c ∷ [] | some h ↦ c ∷ walked n (h .cell) ]
+  ]
 
 -- a length one step longer
 abbrev pub longer : {S : Type 0} (𝓛 : Lengths S) → S → Option (At (𝓛 .Len)) → Option (At (𝓛 .Len))

@@ -38,27 +38,37 @@ module _ (l m : Length) where
 
   pub by-straight : l .diagonal ≡ m .diagonal → compared l m ≡ signOf (l .straight) (m .straight)
   unfolding ruled
-  by-straight h = compared-is (signOf (l .straight) (m .straight)) Same (sizeOf (l .straight) (m .straight)) (sizeOf (l .diagonal) (m .diagonal)) refl refl (sign-same (l .diagonal) (m .diagonal) h) refl
+  by-straight h = compared-is (signOf (l .straight) (m .straight)) Same (sizeOf (l .straight) (m .straight))
+      (sizeOf (l .diagonal) (m .diagonal)) refl refl (sign-same (l .diagonal) (m .diagonal) h) refl
 
   pub by-diagonal : l .straight ≡ m .straight → compared l m ≡ signOf (l .diagonal) (m .diagonal)
-  by-diagonal h = compared-is Same (signOf (l .diagonal) (m .diagonal)) (sizeOf (l .straight) (m .straight)) (sizeOf (l .diagonal) (m .diagonal)) (sign-same (l .straight) (m .straight) h) refl refl refl
-      ∙ ruled-same (sizeOf (l .straight) (m .straight)) (signOf (l .diagonal) (m .diagonal)) (sizeOf (l .diagonal) (m .diagonal))
+  by-diagonal h = compared-is Same (signOf (l .diagonal) (m .diagonal)) (sizeOf (l .straight) (m .straight))
+      (sizeOf (l .diagonal) (m .diagonal)) (sign-same (l .straight) (m .straight) h) refl refl refl
+      ∙ ruled-same (sizeOf (l .straight) (m .straight)) (signOf (l .diagonal) (m .diagonal))
+      (sizeOf (l .diagonal) (m .diagonal))
 
   pub both-less : l .straight < m .straight → l .diagonal < m .diagonal → compared l m ≡ Shorter
   unfolding ruled
-  both-less h i = compared-is Shorter Shorter (sizeOf (l .straight) (m .straight)) (sizeOf (l .diagonal) (m .diagonal)) (sign-less (l .straight) (m .straight) h) refl (sign-less (l .diagonal) (m .diagonal) i) refl
+  both-less h i = compared-is Shorter Shorter (sizeOf (l .straight) (m .straight))
+      (sizeOf (l .diagonal) (m .diagonal)) (sign-less (l .straight) (m .straight) h) refl
+      (sign-less (l .diagonal) (m .diagonal) i) refl
 
   pub both-more : m .straight < l .straight → m .diagonal < l .diagonal → compared l m ≡ Longer
   unfolding ruled
-  both-more h i = compared-is Longer Longer (sizeOf (l .straight) (m .straight)) (sizeOf (l .diagonal) (m .diagonal)) (sign-more (l .straight) (m .straight) h) refl (sign-more (l .diagonal) (m .diagonal) i) refl
+  both-more h i = compared-is Longer Longer (sizeOf (l .straight) (m .straight)) (sizeOf (l .diagonal) (m .diagonal))
+      (sign-more (l .straight) (m .straight) h) refl (sign-more (l .diagonal) (m .diagonal) i) refl
 
   -- where the signs differ, by the test that the code makes
-  pub less-more : (p q : ℕ) → l .straight + p ≡ m .straight → 0 < p → m .diagonal + q ≡ l .diagonal → 0 < q → (b : Bool) → ltb (2 * (q * q)) (p * p) ≡ b → compared l m ≡ cond b Shorter Longer
+  pub less-more : (p q : ℕ) → l .straight + p ≡ m .straight → 0 < p → m .diagonal + q ≡ l .diagonal → 0 < q
+      → (b : Bool) → ltb (2 * (q * q)) (p * p) ≡ b → compared l m ≡ cond b Shorter Longer
   unfolding ruled
-  less-more p q e h f i b t = compared-is Shorter Longer p q (sign-less (l .straight) (m .straight) (omega arith)) (omega arith) (sign-more (l .diagonal) (m .diagonal) (omega arith)) (omega arith)
+  less-more p q e h f i b t = compared-is Shorter Longer p q (sign-less (l .straight) (m .straight) (omega arith))
+      (omega arith) (sign-more (l .diagonal) (m .diagonal) (omega arith)) (omega arith)
       ∙ ap (λ (u : Bool). cond u Shorter Longer) t
 
-  pub more-less : (p q : ℕ) → m .straight + p ≡ l .straight → 0 < p → l .diagonal + q ≡ m .diagonal → 0 < q → (b : Bool) → ltb (2 * (q * q)) (p * p) ≡ b → compared l m ≡ cond b Longer Shorter
+  pub more-less : (p q : ℕ) → m .straight + p ≡ l .straight → 0 < p → l .diagonal + q ≡ m .diagonal → 0 < q
+      → (b : Bool) → ltb (2 * (q * q)) (p * p) ≡ b → compared l m ≡ cond b Longer Shorter
   unfolding ruled
-  more-less p q e h f i b t = compared-is Longer Shorter p q (sign-more (l .straight) (m .straight) (omega arith)) (omega arith) (sign-less (l .diagonal) (m .diagonal) (omega arith)) (omega arith)
+  more-less p q e h f i b t = compared-is Longer Shorter p q (sign-more (l .straight) (m .straight) (omega arith))
+      (omega arith) (sign-less (l .diagonal) (m .diagonal) (omega arith)) (omega arith)
       ∙ ap (λ (u : Bool). cond u Longer Shorter) t

@@ -48,11 +48,15 @@ module _ (k : ℕ) {S : Type 0} (𝓛 : Lengths S) (p q : 𝓛 .Len → ℕ) (i 
     pub surd-laws : LengthLaws 𝓛
     surd-laws = record {
       asym = λ x y h. m .compares y x ∙ surd-asym k (p x) (q x) (p y) (q y) (of x y true h);
-      trans = λ x y z h g. m .compares z x ∙ surd-trans k (p x) (q x) (p y) (q y) (p z) (q z) (of y x false h) (of z y false g);
-      grows = λ x s. at x (x ▹ s) (p x) (q x) (p x + i s) (q x + j s) refl refl (m .adds-p x s) (m .adds-q x s) ∙ surd-more k (p x) (q x) (i s) (j s) (m .positive s);
-      mono = λ x y s h. at (y ▹ s) (x ▹ s) (p y + i s) (q y + j s) (p x + i s) (q x + j s) (m .adds-p y s) (m .adds-q y s) (m .adds-p x s) (m .adds-q x s)
+      trans = λ x y z h g. m .compares z x ∙ surd-trans k (p x) (q x) (p y) (q y) (p z) (q z) (of y x false h)
+          (of z y false g);
+      grows = λ x s. at x (x ▹ s) (p x) (q x) (p x + i s) (q x + j s) refl refl (m .adds-p x s) (m .adds-q x s)
+          ∙ surd-more k (p x) (q x) (i s) (j s) (m .positive s);
+      mono = λ x y s h. at (y ▹ s) (x ▹ s) (p y + i s) (q y + j s) (p x + i s) (q x + j s) (m .adds-p y s)
+          (m .adds-q y s) (m .adds-p x s) (m .adds-q x s)
           ∙ surd-shift k (p y) (q y) (p x) (q x) (i s) (j s) ∙ of y x false h;
-      at-top = λ x s. at (x ▹ top) (x ▹ s) (p x + i top) (q x + j top) (p x + i s) (q x + j s) (m .adds-p x top) (m .adds-q x top) (m .adds-p x s) (m .adds-q x s)
+      at-top = λ x s. at (x ▹ top) (x ▹ s) (p x + i top) (q x + j top) (p x + i s) (q x + j s) (m .adds-p x top)
+          (m .adds-q x top) (m .adds-p x s) (m .adds-q x s)
           ∙ surd-shift-left k (i top) (j top) (i s) (j s) (p x) (q x) ∙ m .longest s;
     }
 
@@ -79,7 +83,8 @@ pub square-laws : LengthLaws squareCells
 square-laws = surd-laws 2 squareCells (λ l. l .straight) (λ l. l .diagonal) straights diagonals squares-stand
 
 -- the laws stay when steps go by another name
-pub stepped-laws : {S T : Type 0} (f : T → S) (top : T) (𝓛 : Lengths S) → f top ≡ 𝓛 .top → LengthLaws 𝓛 → LengthLaws (steppedBy f top 𝓛)
+pub stepped-laws : {S T : Type 0} (f : T → S) (top : T) (𝓛 : Lengths S) → f top ≡ 𝓛 .top → LengthLaws 𝓛
+    → LengthLaws (steppedBy f top 𝓛)
 stepped-laws f top 𝓛 e laws = record {
   asym = laws .asym;
   trans = laws .trans;
@@ -94,13 +99,24 @@ square-same l m h g = same-counts l m (compared-is l m ∙ cc (shorter-is l m, s
 
 -- A STEP ADDED TO BOTH KEEPS THE ORDER
 pub step-keeps : (l m : Length) (s : Step) → compared (plusStep l s) (plusStep m s) ≡ compared l m
-step-keeps l m s = compared-is (plusStep l s) (plusStep m s) ∙ ap₂ (λ b c. cond b Shorter (cond c Longer Same)) (less-keeps l m) (less-keeps m l) ∙ sym (compared-is l m)
+step-keeps l m s = compared-is (plusStep l s) (plusStep m s)
+    ∙ ap₂ (λ b c. cond b Shorter (cond c Longer Same)) (less-keeps l m) (less-keeps m l) ∙ sym (compared-is l m)
   where
-    shift : (x y : Length) → surdLess 2 (x .straight + straights s) (x .diagonal + diagonals s) (y .straight + straights s) (y .diagonal + diagonals s) ≡ surdLess 2 (x .straight) (x .diagonal) (y .straight) (y .diagonal)
+    shift : (x y : Length) → surdLess 2 (x .straight + straights s) (x .diagonal + diagonals s)
+        (y .straight + straights s) (y .diagonal + diagonals s) ≡ surdLess 2 (x .straight) (x .diagonal) (y .straight)
+        (y .diagonal)
     shift x y = surd-shift 2 (x .straight) (x .diagonal) (y .straight) (y .diagonal) (straights s) (diagonals s)
 
-    less-keeps : (x y : Length) → surdLess 2 ((plusStep x s) .straight) ((plusStep x s) .diagonal) ((plusStep y s) .straight) ((plusStep y s) .diagonal) ≡ surdLess 2 (x .straight) (x .diagonal) (y .straight) (y .diagonal)
-    less-keeps x y = cc (squares-stand .adds-p x s, squares-stand .adds-q x s, squares-stand .adds-p y s, squares-stand .adds-q y s, shift x y)
+    less-keeps : (x y : Length) → surdLess 2 ((plusStep x s) .straight) ((plusStep x s) .diagonal)
+        ((plusStep y s) .straight) ((plusStep y s) .diagonal) ≡ surdLess 2 (x .straight) (x .diagonal) (y .straight)
+        (y .diagonal)
+    less-keeps x y = cc (
+      squares-stand .adds-p x s,
+      squares-stand .adds-q x s,
+      squares-stand .adds-p y s,
+      squares-stand .adds-q y s,
+      shift x y,
+    )
 
 -- N STEPS NEVER EXCEED N√2
 module _ {S : Type 0} (𝓛 : Lengths S) (laws : LengthLaws 𝓛) where
@@ -119,12 +135,17 @@ module _ {S : Type 0} (𝓛 : Lengths S) (laws : LengthLaws 𝓛) where
   pub steps-at-most : (l m : Len) (ss : List S) → shorter m l ≡ false → shorter (topSteps m ss) (steps l ss) ≡ false
   unfolding steps topSteps
   steps-at-most l m [] h = h
-  steps-at-most l m (s ∷ ss) h = steps-at-most (l ▹ s) (m ▹ top) ss (laws .trans (l ▹ s) (l ▹ top) (m ▹ top) (laws .at-top l s) (laws .mono l m top h))
+  steps-at-most l m (s ∷ ss) h =
+      steps-at-most (l ▹ s) (m ▹ top) ss (laws .trans (l ▹ s) (l ▹ top) (m ▹ top) (laws .at-top l s)
+      (laws .mono l m top h))
 
-top-counts : (l : Length) (ss : List Step) → topSteps squareCells square-laws l ss ≡ counts (l .straight) (l .diagonal + length ss)
+top-counts : (l : Length) (ss : List Step) → topSteps squareCells square-laws l ss ≡ counts (l .straight)
+    (l .diagonal + length ss)
 unfolding topSteps
 top-counts l [] = ap (counts (l .straight)) (sym (add-zero (l .diagonal)))
 top-counts l (s ∷ ss) = top-counts (plusStep l Diagonal) ss ∙ ap (counts (l .straight)) (omega arith)
 
-pub never-exceed : (l : Length) (ss : List Step) → isShorter (counts (l .straight) (l .diagonal + length ss)) (steps squareCells square-laws l ss) ≡ false
-never-exceed l ss = ap (λ (m : Length). isShorter m (steps squareCells square-laws l ss)) (sym (top-counts l ss)) ∙ steps-at-most squareCells square-laws l l ss (shorter-refl l)
+pub never-exceed : (l : Length) (ss : List Step) → isShorter (counts (l .straight) (l .diagonal + length ss))
+    (steps squareCells square-laws l ss) ≡ false
+never-exceed l ss = ap (λ (m : Length). isShorter m (steps squareCells square-laws l ss)) (sym (top-counts l ss))
+    ∙ steps-at-most squareCells square-laws l l ss (shorter-refl l)

@@ -1,4 +1,5 @@
--- The order of the numbers p + q√k, for whole p, q and k, by whole numbers alone: the sign of p + q√k is the sign of p|p| + k·q|q|.
+-- The order of the numbers p + q√k, for whole p, q and k, by whole numbers alone: the sign of p + q√k is the sign of
+-- p|p| + k·q|q|.
 -- Assumes nothing.
 use mathlib.Core.Path.{_≡_, refl, sym, ap}
 use mathlib.Core.Bool.{Bool, true, false, not}
@@ -48,10 +49,12 @@ cross-slant k p q p′ q′ h h′ = elim (decLe (p * p′) (k * (q * q′))) [ 
     go : suc (k * (q * q′)) ≤ p * p′ → ⊥
     go l = omega (arith, mul-le-mul h h′, mul-le-mul l l)
 
-sum-flat : (k p q p′ q′ : ℕ) → k * (q * q) ≤ p * p → k * (q′ * q′) ≤ p′ * p′ → k * ((q + q′) * (q + q′)) ≤ (p + p′) * (p + p′)
+sum-flat : (k p q p′ q′ : ℕ) → k * (q * q) ≤ p * p → k * (q′ * q′) ≤ p′ * p′
+    → k * ((q + q′) * (q + q′)) ≤ (p + p′) * (p + p′)
 sum-flat k p q p′ q′ h h′ = omega (arith, cross-flat k p q p′ q′ h h′)
 
-sum-slant : (k p q p′ q′ : ℕ) → p * p ≤ k * (q * q) → p′ * p′ ≤ k * (q′ * q′) → (p + p′) * (p + p′) ≤ k * ((q + q′) * (q + q′))
+sum-slant : (k p q p′ q′ : ℕ) → p * p ≤ k * (q * q) → p′ * p′ ≤ k * (q′ * q′)
+    → (p + p′) * (p + p′) ≤ k * ((q + q′) * (q + q′))
 sum-slant k p q p′ q′ h h′ = omega (arith, cross-slant k p q p′ q′ h h′)
 
 -- what is left of a greater after a lesser is taken away
@@ -72,13 +75,20 @@ unfolding SurdAtMost squareSum
 way-of k a b c d h = elim (decLe a c) [ yes i ↦ up i | no i ↦ down (omega arith) ]
   where
     up : a ≤ c → Way k a b c d
-    up i = elim (decLe b d) [ yes j ↦ both i j | no j ↦ flat (c - a) (b - d) (omega arith) (omega arith) (short (omega arith)) ]
+    up i = elim (decLe b d) [
+      | yes j ↦ both i j
+      | no j ↦ flat (c - a) (b - d) (omega arith) (omega arith)
+          (short (omega arith))
+    ]
       where
         short : d ≤ b → k * ((b - d) * (b - d)) ≤ (c - a) * (c - a)
         short l = omega (arith, rw (sub-eq-zero-of-le i, sub-eq-zero-of-le l) at h)
 
     down : c < a → Way k a b c d
-    down i = elim (decLe b d) [ yes j ↦ slant (a - c) (d - b) (omega arith) (omega arith) (short j) | no j ↦ absurd (none (omega arith)) ]
+    down i = elim (decLe b d) [
+      | yes j ↦ slant (a - c) (d - b) (omega arith) (omega arith) (short j)
+      | no j ↦ absurd (none (omega arith))
+    ]
       where
         gone : c - a ≡ 0
         gone = omega arith
@@ -109,29 +119,46 @@ SurdAtMost-trans k a b c d e f h h′ = at-most-of k a b e f (go (way-of k a b c
   where
     -- from the ends' differences, if the numbers on both sides of them are known
     as-flat : (p q : ℕ) → e ≡ a + p → k * (q * q) ≤ p * p → b ≤ f + q → Way k a b e f
-    as-flat p q i l j = elim (decLe b f) [ yes m ↦ both (omega arith) m | no m ↦ flat p (b - f) i (omega arith) (less (omega arith)) ]
+    as-flat p q i l j = elim (decLe b f) [
+      | yes m ↦ both (omega arith) m
+      | no m ↦ flat p (b - f) i (omega arith)
+          (less (omega arith))
+    ]
       where
         less : b - f ≤ q → k * ((b - f) * (b - f)) ≤ p * p
         less m = omega (arith, mul-le-mul-left k (mul-le-mul m m))
 
     as-slant : (p q : ℕ) → f ≡ b + q → p * p ≤ k * (q * q) → a ≤ e + p → Way k a b e f
-    as-slant p q i l j = elim (decLe a e) [ yes m ↦ both m (omega arith) | no m ↦ slant (a - e) q (omega arith) i (less (omega arith)) ]
+    as-slant p q i l j = elim (decLe a e) [
+      | yes m ↦ both m (omega arith)
+      | no m ↦ slant (a - e) q (omega arith) i
+          (less (omega arith))
+    ]
       where
         less : a - e ≤ p → (a - e) * (a - e) ≤ k * (q * q)
         less m = omega (arith, mul-le-mul m m)
 
     -- one difference of each kind
-    mixed : (p q p′ q′ : ℕ) → k * (q * q) ≤ p * p → p′ * p′ ≤ k * (q′ * q′) → a + p ≡ e + p′ → b + q′ ≡ f + q → Way k a b e f
+    mixed : (p q p′ q′ : ℕ) → k * (q * q) ≤ p * p → p′ * p′ ≤ k * (q′ * q′) → a + p ≡ e + p′ → b + q′ ≡ f + q
+        → Way k a b e f
     mixed p q p′ q′ l l′ x y = elim (decLe p′ p) [ yes m ↦ up m | no m ↦ down (omega arith) ]
       where
         up : p′ ≤ p → Way k a b e f
-        up m = elim (decLe q q′) [ yes n ↦ both (omega arith) (omega arith) | no n ↦ flat (p - p′) (q - q′) (omega arith) (omega arith) (rest (omega arith) (omega arith)) ]
+        up m = elim (decLe q q′) [
+          | yes n ↦ both (omega arith) (omega arith)
+          | no n ↦ flat (p - p′) (q - q′)
+              (omega arith) (omega arith) (rest (omega arith) (omega arith))
+        ]
           where
             rest : p′ + (p - p′) ≡ p → q′ + (q - q′) ≡ q → k * ((q - q′) * (q - q′)) ≤ (p - p′) * (p - p′)
             rest v w = less-flat k p′ q′ (q - q′) (p - p′) l′ (rw (v, w) l)
 
         down : p < p′ → Way k a b e f
-        down m = elim (decLe q q′) [ yes n ↦ slant (p′ - p) (q′ - q) (omega arith) (omega arith) (rest (omega arith) (omega arith)) | no n ↦ absurd (none (omega arith)) ]
+        down m = elim (decLe q q′) [
+          | yes n ↦ slant (p′ - p) (q′ - q) (omega arith) (omega arith)
+              (rest (omega arith) (omega arith))
+          | no n ↦ absurd (none (omega arith))
+        ]
           where
             rest : p + (p′ - p) ≡ p′ → q + (q′ - q) ≡ q′ → (p′ - p) * (p′ - p) ≤ k * ((q′ - q) * (q′ - q))
             rest v w = less-slant k p q (q′ - q) (p′ - p) l (rw (v, w) l′)
@@ -141,12 +168,15 @@ SurdAtMost-trans k a b c d e f h h′ = at-most-of k a b e f (go (way-of k a b c
 
     go : Way k a b c d → Way k c d e f → Way k a b e f
     go (both i j) (both i′ j′) = both (omega arith) (omega arith)
-    go (both i j) (flat p q x y l) = as-flat (p + (c - a)) q (omega arith) (omega (arith, mul-le-mul-left p (sub-le c a))) (omega arith)
+    go (both i j) (flat p q x y l) = as-flat (p + (c - a)) q (omega arith)
+        (omega (arith, mul-le-mul-left p (sub-le c a))) (omega arith)
     go (both i j) (slant p q x y l) = as-slant p (q + (d - b)) (omega arith) (omega arith) (omega arith)
     go (flat p q x y l) (both i j) = as-flat (p + (e - c)) q (omega arith) (omega arith) (omega arith)
     go (slant p q x y l) (both i j) = as-slant p (q + (f - d)) (omega arith) (omega arith) (omega arith)
-    go (flat p q x y l) (flat p′ q′ x′ y′ l′) = as-flat (p + p′) (q + q′) (omega arith) (sum-flat k p q p′ q′ l l′) (omega arith)
-    go (slant p q x y l) (slant p′ q′ x′ y′ l′) = as-slant (p + p′) (q + q′) (omega arith) (sum-slant k p q p′ q′ l l′) (omega arith)
+    go (flat p q x y l) (flat p′ q′ x′ y′ l′) = as-flat (p + p′) (q + q′) (omega arith) (sum-flat k p q p′ q′ l l′)
+        (omega arith)
+    go (slant p q x y l) (slant p′ q′ x′ y′ l′) = as-slant (p + p′) (q + q′) (omega arith)
+        (sum-slant k p q p′ q′ l l′) (omega arith)
     go (flat p q x y l) (slant p′ q′ x′ y′ l′) = mixed p q p′ q′ l l′ (omega arith) (omega arith)
     go (slant p q x y l) (flat p′ q′ x′ y′ l′) = mixed p′ q′ p q l′ l (omega arith) (omega arith)
 
@@ -166,10 +196,12 @@ at-most-surd k a b c d h = le-ltb (excess k a b c d) (excess k c d a b) h
 -- asymmetric, and what is not surdLess is transitive
 pub surd-asym : (k a b c d : ℕ) → surdLess k a b c d ≡ true → surdLess k c d a b ≡ false
 unfolding surdLess
-surd-asym k a b c d t = le-ltb (excess k c d a b) (excess k a b c d) (omega (arith, ltb-true (excess k a b c d) (excess k c d a b) t))
+surd-asym k a b c d t = le-ltb (excess k c d a b) (excess k a b c d)
+    (omega (arith, ltb-true (excess k a b c d) (excess k c d a b) t))
 
 pub surd-trans : (k a b c d e f : ℕ) → surdLess k c d a b ≡ false → surdLess k e f c d ≡ false → surdLess k e f a b ≡ false
-surd-trans k a b c d e f h i = at-most-surd k e f a b (SurdAtMost-trans k a b c d e f (surd-false k c d a b h) (surd-false k e f c d i))
+surd-trans k a b c d e f h i =
+    at-most-surd k e f a b (SurdAtMost-trans k a b c d e f (surd-false k c d a b h) (surd-false k e f c d i))
 
 -- the same added to both sides makes no difference
 pub surd-shift : (k a b c d i j : ℕ) → surdLess k (a + i) (b + j) (c + i) (d + j) ≡ surdLess k a b c d
@@ -191,7 +223,8 @@ all x y = omega arith
 -- more of either is more
 pub surd-more : (k a b i j : ℕ) → 0 < i + k * j → surdLess k a b (a + i) (b + j) ≡ true
 unfolding surdLess squareSum
-surd-more k a b i j h = rw (none a i, none b j, all a i, all b j) (lt-ltb (squareSum k 0 0) (squareSum k i j) (elim (decLe 1 i) [ yes l ↦ left l | no l ↦ right (omega arith) ]))
+surd-more k a b i j h = rw (none a i, none b j, all a i, all b j)
+    (lt-ltb (squareSum k 0 0) (squareSum k i j) (elim (decLe 1 i) [ yes l ↦ left l | no l ↦ right (omega arith) ]))
   where
     left : 1 ≤ i → squareSum k 0 0 < squareSum k i j
     left l = omega (arith, mul-le-mul l l)
@@ -223,10 +256,20 @@ square-zero x l = elim (decLe 1 x) [ yes m ↦ absurd (never m) | no m ↦ omega
 -- the square root of 2 is no fraction: p is even, and q and p / 2 are a smaller pair of the same kind
 root-two : (n p q : ℕ) → p ≤ n → p * p ≡ 2 * (q * q) → p ≡ 0
 root-two zero p q h e = omega arith
-root-two (suc n) p q h e = elim (decLe 1 p) [ yes l ↦ go (p / 2) (p % 2) (omega arith) (omega arith) l (root-two n q (p / 2)) | no l ↦ omega arith ]
+root-two (suc n) p q h e =
+    elim (decLe 1 p) [
+      | yes l ↦ go (p / 2) (p % 2) (omega arith) (omega arith) l (root-two n q (p / 2))
+      | no l ↦ omega arith
+    ]
   where
     go : (m r : ℕ) → p ≡ 2 * m + r → r ≤ 1 → 1 ≤ p → (q ≤ n → q * q ≡ 2 * (m * m) → q ≡ 0) → p ≡ 0
-    go m zero f l o ih = square-zero p (omega (arith, e, ap (λ (x : ℕ). x * x) (ih (elim (decLe q n) [ yes k ↦ k | no k ↦ absurd (big (omega arith)) ]) (omega (arith, rw f at e)))))
+    go m zero f l o ih = square-zero p
+        (omega (
+          arith,
+          e,
+          ap (λ (x : ℕ). x * x)
+              (ih (elim (decLe q n) [ yes k ↦ k | no k ↦ absurd (big (omega arith)) ]) (omega (arith, rw f at e))),
+        ))
       where
         big : p ≤ q → ⊥
         big k = omega (arith, mul-le-mul k k, mul-le-mul o o)
@@ -234,7 +277,8 @@ root-two (suc n) p q h e = elim (decLe 1 p) [ yes l ↦ go (p / 2) (p % 2) (omeg
     go m (suc (suc r)) f l o ih = absurd (omega arith)
 
 roots : (p q : ℕ) → p * p ≡ 2 * (q * q) → (p ≡ 0) × (q ≡ 0)
-roots p q e = let z : p ≡ 0 = root-two p p q (omega arith) e in (z, square-zero q (omega (arith, e, ap (λ (x : ℕ). x * x) z)))
+roots p q e = let z : p ≡ 0 = root-two p p q (omega arith) e in
+    (z, square-zero q (omega (arith, e, ap (λ (x : ℕ). x * x) z)))
 
 same-half : (a b c d : ℕ) → a ≤ c → excess 2 a b c d ≡ excess 2 c d a b → (a ≡ c) × (b ≡ d)
 unfolding squareSum
@@ -258,7 +302,10 @@ same-half a b c d l e = elim (decLe b d) [ yes m ↦ up m | no m ↦ down (omega
 -- neither surdLess the other, at k = 2: the same
 pub surd-same : (a b c d : ℕ) → surdLess 2 a b c d ≡ false → surdLess 2 c d a b ≡ false → (a ≡ c) × (b ≡ d)
 unfolding SurdAtMost
-surd-same a b c d h i = elim (decLe a c) [ yes l ↦ same-half a b c d l (omega (arith, x, y)) | no l ↦ turn (same-half c d a b (omega arith) (omega (arith, x, y))) ]
+surd-same a b c d h i = elim (decLe a c) [
+  | yes l ↦ same-half a b c d l (omega (arith, x, y))
+  | no l ↦ turn (same-half c d a b (omega arith) (omega (arith, x, y)))
+]
   where
     x : SurdAtMost 2 c d a b
     x = surd-false 2 a b c d h
@@ -275,7 +322,8 @@ half-square p q h = go (ltb (2 * (q * q)) (p * p)) refl
   where
     go : (b : Bool) → ltb (2 * (q * q)) (p * p) ≡ b → leb (q * q) (p * p / 2) ≡ b
     go true e = le-leb (q * q) (p * p / 2) (omega (arith, ltb-true (2 * (q * q)) (p * p) e))
-    go false e = lt-leb (q * q) (p * p / 2) (elim (decLe (q * q) (p * p / 2)) [ yes l ↦ absurd (never l) | no l ↦ omega arith ])
+    go false e = lt-leb (q * q) (p * p / 2)
+        (elim (decLe (q * q) (p * p / 2)) [ yes l ↦ absurd (never l) | no l ↦ omega arith ])
       where
         never : q * q ≤ p * p / 2 → ⊥
         never l = let z = roots p q (omega (arith, ltb-false (2 * (q * q)) (p * p) e)) in omega arith
@@ -283,7 +331,8 @@ half-square p q h = go (ltb (2 * (q * q)) (p * p)) refl
 -- p² and 2q² are never equal, so one test tells the other
 pub square-other : (p q : ℕ) → 0 < q → (b : Bool) → ltb (2 * (q * q)) (p * p) ≡ b → ltb (p * p) (2 * (q * q)) ≡ not b
 square-other p q h true e = le-ltb (p * p) (2 * (q * q)) (omega (arith, ltb-true (2 * (q * q)) (p * p) e))
-square-other p q h false e = lt-ltb (p * p) (2 * (q * q)) (elim (decLe (2 * (q * q)) (p * p)) [ yes l ↦ absurd (never l) | no l ↦ omega arith ])
+square-other p q h false e =
+    lt-ltb (p * p) (2 * (q * q)) (elim (decLe (2 * (q * q)) (p * p)) [ yes l ↦ absurd (never l) | no l ↦ omega arith ])
   where
     never : 2 * (q * q) ≤ p * p → ⊥
     never l = let z = roots p q (omega (arith, ltb-false (2 * (q * q)) (p * p) e)) in omega arith

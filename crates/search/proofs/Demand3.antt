@@ -34,7 +34,8 @@ use Rattle.search.proofs.Waiting.{drain-from}
 use Rattle.search.proofs.Ordered.{parts-asym, longest-sorted}
 
 -- lists
-in-cell : (xs : List (At Length)) (c : ℕ) → In c (map (λ x. x .cell) xs) → (l : Length) × In (record { cell = c; len = l }) xs
+in-cell : (xs : List (At Length)) (c : ℕ) → In c (map (λ x. x .cell) xs)
+    → (l : Length) × In (record { cell = c; len = l }) xs
 in-cell [] c i = absurd i
 in-cell (x ∷ xs) c (inl e) = (x .len, inl (λ t. record { cell = e t; len = x .len }))
 in-cell (x ∷ xs) c (inr i) = let p = in-cell xs c i in (p .0, inr (p .1))
@@ -44,7 +45,8 @@ cell-in [] b i = absurd i
 cell-in (x ∷ xs) b (inl e) = inl (ap (λ (y : At Length). y .cell) e)
 cell-in (x ∷ xs) b (inr i) = inr (cell-in xs b i)
 
-first-len : (xs : List (At Length)) → ((b b′ : At Length) → In b xs → In b′ xs → b .len ≡ b′ .len) → (b : At Length) → In b xs → b .len ≡ firstLength xs
+first-len : (xs : List (At Length)) → ((b b′ : At Length) → In b xs → In b′ xs → b .len ≡ b′ .len) → (b : At Length)
+    → In b xs → b .len ≡ firstLength xs
 first-len [] h b i = absurd i
 first-len (x ∷ xs) h b i = h b x i (inl refl)
 
@@ -64,26 +66,31 @@ only-all : (xs : List (At Length)) → only (λ x. true) xs ≡ xs
 only-all [] = refl
 only-all (x ∷ xs) = ap (λ l. x ∷ l) (only-all xs)
 
-module _ (g : Grid) (a : List ℕ) (h : agrees g a ≡ true) (outlets : List ℕ) (o : ℕ) (listed : member o outlets ≡ true) (v : ground g o ≡ true) where
+module _ (g : Grid) (a : List ℕ) (h : agrees g a ≡ true) (outlets : List ℕ) (o : ℕ) (listed : member o outlets ≡ true)
+    (v : ground g o ≡ true) where
   -- the cells of the subwatershed, each with the length of its walk
   abbrev cells : List (At Length)
   cells = cellsFrom squares everyCell o (forest g outlets o)
 
   -- the walk from a cell comes to o first, with this length
   Reaches : At Length → Type 0
-  Reaches b = firstOutlet squares (next g) (isOutlet g outlets) (places g) (b .cell) ≡ some (record { cell = o; len = b .len })
+  Reaches b = firstOutlet squares (next g) (isOutlet g outlets) (places g) (b .cell)
+      ≡ some (record { cell = o; len = b .len })
 
   reached : (b : At Length) → In b cells → Reaches b
   unfolding Reaches forest
-  reached b i = every-in Reaches b cells (cells-first squares (next g) (isOutlet g outlets) (inflows g) (ground g) (places g) (𝓝 g) (places g) o listed) i
+  reached b i = every-in Reaches b cells (cells-first squares (next g) (isOutlet g outlets) (inflows g) (ground g)
+      (places g) (𝓝 g) (places g) o listed) i
 
   reaches : (b : At Length) → Reaches b → In b cells
   unfolding Reaches forest
-  reaches b r = first-listed squares (next g) (isOutlet g outlets) (inflows g) (ground g) (places g) (𝓝 g) (places g) (b .cell) (record { cell = o; len = b .len }) r
+  reaches b r = first-listed squares (next g) (isOutlet g outlets) (inflows g) (ground g) (places g) (𝓝 g) (places g)
+      (b .cell) (record { cell = o; len = b .len }) r
 
   reaches-inside : (b : At Length) → Reaches b → InSubwatershed g outlets o (b .cell)
   unfolding Reaches
-  reaches-inside b r = first-meets squares (next g) (isOutlet g outlets) (places g) (b .cell) (record { cell = o; len = b .len }) r
+  reaches-inside b r = first-meets squares (next g) (isOutlet g outlets) (places g) (b .cell)
+      (record { cell = o; len = b .len }) r
 
   reaches-length : (b : At Length) → HasLength g outlets o (b .cell) (b .len) ↔ Reaches b
   unfolding Reaches
@@ -110,7 +117,8 @@ module _ (g : Grid) (a : List ℕ) (h : agrees g a ≡ true) (outlets : List ℕ
         record { there = reached b (q .0); may-start = q .1; none-longer = λ c r m. p .1 c (listed-may c r m) }
 
     of-start : (b : At Length) → Start b → In b xs
-    of-start b s = subst (In b) (sym lists) (is-longest squares (only (λ x. may (x .cell)) cells) b (listed-may b (s .there) (s .may-start))
+    of-start b s = subst (In b) (sym lists) (is-longest squares (only (λ x. may (x .cell)) cells) b
+        (listed-may b (s .there) (s .may-start))
         (λ c i. let q = in-only (λ x. may (x .cell)) c cells i in s .none-longer c (reached c (q .0)) (q .1)))
 
     exact : (c : ℕ) → In c starts ↔ Longest g outlets may o c
@@ -125,7 +133,8 @@ module _ (g : Grid) (a : List ℕ) (h : agrees g a ≡ true) (outlets : List ℕ
               starts = s .may-start;
               len = p .0;
               has = reaches-length (record { cell = c; len = p .0 }) .1 (s .there);
-              none-longer = λ y l m t k. s .none-longer (record { cell = y; len = l }) (reaches-length (record { cell = y; len = l }) .0 k) t;
+              none-longer = λ y l m t k. s .none-longer (record { cell = y; len = l })
+                  (reaches-length (record { cell = y; len = l }) .0 k) t;
             }
 
         back : Longest g outlets may o c → In c starts
@@ -137,45 +146,58 @@ module _ (g : Grid) (a : List ℕ) (h : agrees g a ≡ true) (outlets : List ℕ
 
     ordered : Sorted (Before g outlets) starts
     unfolding forest
-    ordered = sorted-over (λ x. x .cell) (Before g outlets) xs (subst (Sorted (λ x y. Before g outlets (x .cell) (y .cell))) (sym lists)
-        (longest-sorted squares squares-laws (next g) (isOutlet g outlets) (inflows g) (ground g) (places g) (𝓝 g) (inflows-rise g) may (places g) o listed))
+    ordered = sorted-over (λ x. x .cell) (Before g outlets) xs
+        (subst (Sorted (λ x y. Before g outlets (x .cell) (y .cell))) (sym lists)
+        (longest-sorted squares squares-laws (next g) (isOutlet g outlets) (inflows g) (ground g) (places g) (𝓝 g)
+        (inflows-rise g) may (places g) o listed))
 
     once : Sorted (λ x y. x ≡ y → ⊥) starts
-    once = sorted-with (Before g outlets) (λ x y. x ≡ y → ⊥) (λ x. ℕ) (λ x y p q b e. let b′ = subst (Before g outlets x) (sym e) b in parts-asym _ _ b′ b′) starts (every-is (λ x. ℕ) starts (λ x i. x)) ordered
+    once = sorted-with (Before g outlets) (λ x y. x ≡ y → ⊥) (λ x. ℕ)
+        (λ x y p q b e. let b′ = subst (Before g outlets x) (sym e) b in parts-asym _ _ b′ b′) starts
+        (every-is (λ x. ℕ) starts (λ x i. x)) ordered
 
     unique : (ys : List ℕ) → ((c : ℕ) → In c ys ↔ Longest g outlets may o c) → Sorted (Before g outlets) ys → ys ≡ starts
-    unique ys f s = same-sorted (Before g outlets) (λ x y. parts-asym _ _) ys starts s ordered (λ c i. exact c .1 (f c .0 i)) (λ c i. f c .1 (exact c .0 i))
+    unique ys f s = same-sorted (Before g outlets) (λ x y. parts-asym _ _) ys starts s ordered
+        (λ c i. exact c .1 (f c .0 i)) (λ c i. f c .1 (exact c .0 i))
 
     -- all starts have one length
     same-lengths : (b c : At Length) → In b xs → In c xs → b .len ≡ c .len
     same-lengths b c i j =
         let p = start-of b i in
         let q = start-of c j in
-        square-same (b .len) (c .len) (p .none-longer c (q .there) (q .may-start)) (q .none-longer b (p .there) (p .may-start))
+        square-same (b .len) (c .len) (p .none-longer c (q .there) (q .may-start))
+        (q .none-longer b (p .there) (p .may-start))
 
     lengths : (c : ℕ) → In c starts → HasLength g outlets o c (firstLength xs)
     lengths c i =
         let p = in-cell xs c i in
         let b : At Length = record { cell = c; len = p .0 } in
-        subst (HasLength g outlets o c) (first-len xs same-lengths b (p .1)) (reaches-length b .1 ((start-of b (p .1)) .there))
+        subst (HasLength g outlets o c) (first-len xs same-lengths b (p .1))
+        (reaches-length b .1 ((start-of b (p .1)) .there))
 
     -- there is one if any cell may start
     some-start : (c : ℕ) → InSubwatershed g outlets o c → may c ≡ true → 0 < length xs
     unfolding Reaches inSubwatershed
     some-start c i m =
-        let r = true-belongs squares (next g) (isOutlet g outlets) (places g) o c (inside-test g a h outlets o listed v c .0 i) in
+        let r = true-belongs squares (next g) (isOutlet g outlets) (places g) o c
+        (inside-test g a h outlets o listed v c .0 i) in
         subst (λ (l : List (At Length)). 0 < length l) (sym lists)
-        (longest-length (only (λ x. may (x .cell)) cells) (in-length (record { cell = c; len = r .0 }) (only (λ x. may (x .cell)) cells) (listed-may (record { cell = c; len = r .0 }) (r .1) m)))
+        (longest-length (only (λ x. may (x .cell)) cells)
+        (in-length (record { cell = c; len = r .0 }) (only (λ x. may (x .cell)) cells)
+        (listed-may (record { cell = c; len = r .0 }) (r .1) m)))
 
   -- every cell is visited or dropped
-  counted : (rule : Rule squares) → (tracingBy rule g outlets o) .visited + (tracingBy rule g outlets o) .dropped ≡ howMany (inSubwatershed g outlets o) (places g)
+  counted : (rule : Rule squares) → (tracingBy rule g outlets o) .visited + (tracingBy rule g outlets o) .dropped
+      ≡ howMany (inSubwatershed g outlets o) (places g)
   unfolding tracingBy
-  counted rule = search-all squares rule o (forest g outlets o) ∙ sym (sub-size g a h outlets o v) ∙ sym (sub-cells g a h outlets o listed v)
+  counted rule = search-all squares rule o (forest g outlets o) ∙ sym (sub-size g a h outlets o v)
+      ∙ sym (sub-cells g a h outlets o listed v)
 
   -- THE DEMAND, of a search by two rules that list the longest of the cells that may start, the second without dropping
   module _ (may : ℕ → Bool) (rule plain : Rule squares) (off : plain .dropping ≡ false)
       (lists : (searchFrom squares rule o (forest g outlets o)) .starts ≡ longest squares (only (λ x. may (x .cell)) cells))
-      (plain-lists : (searchFrom squares plain o (forest g outlets o)) .starts ≡ longest squares (only (λ x. may (x .cell)) cells))
+      (plain-lists : (searchFrom squares plain o (forest g outlets o)) .starts ≡ longest squares
+      (only (λ x. may (x .cell)) cells))
       (c : ℕ) (inside : InSubwatershed g outlets o c) (starts-there : may c ≡ true) where
     none-there : (tracingBy plain g outlets o) .dropped ≡ 0
     unfolding tracingBy
@@ -202,23 +224,28 @@ module _ (g : Grid) (a : List ℕ) (h : agrees g a ≡ true) (outlets : List ℕ
         xs : List (At Length)
         xs = (searchFrom squares rule o (forest g outlets o)) .starts
 
-        same : (searchFrom squares rule o (forest g outlets o)) .starts ≡ (searchFrom squares plain o (forest g outlets o)) .starts
+        same : (searchFrom squares rule o (forest g outlets o)) .starts
+            ≡ (searchFrom squares plain o (forest g outlets o)) .starts
         same = lists ∙ sym plain-lists
 
   outlet-inside : InSubwatershed g outlets o o
   outlet-inside = record { steps = 0; meets = after-zero (next g) o; no-other = λ j x i. absurd (omega arith) }
 
-  first-lists : (dropping : Bool) → (searchFrom squares (firstRule squares dropping) o (forest g outlets o)) .starts ≡ longest squares (only (λ x. anyCell (x .cell)) cells)
-  first-lists dropping = search-all-longest squares squares-laws dropping o (forest g outlets o) ∙ ap (longest squares) (sym (only-all cells))
+  first-lists : (dropping : Bool) → (searchFrom squares (firstRule squares dropping) o (forest g outlets o)) .starts
+      ≡ longest squares (only (λ x. anyCell (x .cell)) cells)
+  first-lists dropping = search-all-longest squares squares-laws dropping o (forest g outlets o)
+      ∙ ap (longest squares) (sym (only-all cells))
 
   -- THE THEOREM: with and without dropping
   pub demand3 : (dropping : Bool) → Demand3 g outlets anyCell o (tracing dropping g outlets o) (tracing false g outlets o)
-  demand3 dropping = demand anyCell (firstRule squares dropping) (firstRule squares false) refl (first-lists dropping) (first-lists false) o outlet-inside refl
+  demand3 dropping = demand anyCell (firstRule squares dropping) (firstRule squares false) refl (first-lists dropping)
+      (first-lists false) o outlet-inside refl
 
   -- and from pending cells, which tell the same
   pub pending-same : (dropping : Bool) → pendingTracing dropping g outlets o ≡ tracing dropping g outlets o
   unfolding pendingTracing tracingBy
   pending-same dropping = ap told (drain-from squares (firstRule squares dropping) o (forest g outlets o))
 
-  pub demand3-pending : (dropping : Bool) → Demand3 g outlets anyCell o (pendingTracing dropping g outlets o) (pendingTracing false g outlets o)
+  pub demand3-pending : (dropping : Bool) → Demand3 g outlets anyCell o (pendingTracing dropping g outlets o)
+      (pendingTracing false g outlets o)
   demand3-pending dropping = rw (pending-same dropping, pending-same false) (demand3 dropping)

@@ -11,7 +11,21 @@ use Rattle.ground.specs.Lists.{Every, keepIf}
 use Rattle.ground.specs.Walk.{At}
 use Rattle.ground.specs.Forest.{Forest, bare, tree, size, Which, cellsAbove, cellsFrom}
 use Rattle.ground.proofs.Lists.{every-append, every-map, every-keep, keep-append}
-use Rattle.search.specs.Search.{longest, State, fresh, meetIf, belowGreatest, farthest, Rule, firstRule, drops, drop, visit, search, searchFrom}
+use Rattle.search.specs.Search.{
+  longest,
+  State,
+  fresh,
+  meetIf,
+  belowGreatest,
+  farthest,
+  Rule,
+  firstRule,
+  drops,
+  drop,
+  visit,
+  search,
+  searchFrom,
+}
 use Rattle.search.proofs.Meeting.{AtMost, meets, meets-append, meets-keep, irrefl, le-lt, meets-longest, meets-vain}
 
 and-right : (a b : Bool) → (a && b) ≡ true → b ≡ true
@@ -27,12 +41,15 @@ module _ {S : Type 0} (𝓛 : Lengths S) where
 
   module _ (rule : Rule 𝓛) where
     -- the search at a tree, by cases
-    pub search-dropped : (d : Len) (st : State 𝓛) (c : ℕ) (s : S) (above rest : Forest S) → drops 𝓛 rule (st .starts) d s (suc (size above)) ≡ true
+    pub search-dropped : (d : Len) (st : State 𝓛) (c : ℕ) (s : S) (above rest : Forest S)
+        → drops 𝓛 rule (st .starts) d s (suc (size above)) ≡ true
         → search 𝓛 rule d st (tree c s above rest) ≡ search 𝓛 rule d (drop 𝓛 st (suc (size above))) rest
     search-dropped d st c s above rest e = rw (e, search)
 
-    pub search-entered : (d : Len) (st : State 𝓛) (c : ℕ) (s : S) (above rest : Forest S) → drops 𝓛 rule (st .starts) d s (suc (size above)) ≡ false
-        → search 𝓛 rule d st (tree c s above rest) ≡ search 𝓛 rule d (search 𝓛 rule (d ▹ s) (visit 𝓛 rule st c (d ▹ s) above) above) rest
+    pub search-entered : (d : Len) (st : State 𝓛) (c : ℕ) (s : S) (above rest : Forest S)
+        → drops 𝓛 rule (st .starts) d s (suc (size above)) ≡ false
+        → search 𝓛 rule d st (tree c s above rest) ≡ search 𝓛 rule d
+        (search 𝓛 rule (d ▹ s) (visit 𝓛 rule st c (d ▹ s) above) above) rest
     search-entered d st c s above rest e = rw (e, search)
 
 module _ {S : Type 0} (𝓛 : Lengths S) (laws : LengthLaws 𝓛) where
@@ -60,51 +77,81 @@ module _ {S : Type 0} (𝓛 : Lengths S) (laws : LengthLaws 𝓛) where
   unfolding Covers
   first-covers dropping d s n = far-mono n (d ▹ s) (d ▹ top) (at-top d s)
 
-  wider : (k l : Len) (xs : List (At Len)) → AtMost 𝓛 k l → Every (λ x. AtMost 𝓛 (x .len) k) xs → Every (λ x. AtMost 𝓛 (x .len) l) xs
+  wider : (k l : Len) (xs : List (At Len)) → AtMost 𝓛 k l → Every (λ x. AtMost 𝓛 (x .len) k) xs
+      → Every (λ x. AtMost 𝓛 (x .len) l) xs
   wider k l xs h = every-map (λ x. AtMost 𝓛 (x .len) k) (λ x. AtMost 𝓛 (x .len) l) (λ x i. trans (x .len) k l i h) xs
 
-  -- every cell of a forest of n cells above d is within n longest steps of d, and of a tree, within those of the step into it
+  -- every cell of a forest of n cells above d is within n longest steps of d, and of a tree, within those of the step
+  -- into it
   valley-within : (w : Which S) (d : Len) (c : ℕ) (s : S) (above : Forest S)
-      → Every (λ x. AtMost 𝓛 (x .len) (farthest 𝓛 (d ▹ s) (size above))) (cellsAbove 𝓛 w (d ▹ s) above) → Every (λ x. AtMost 𝓛 (x .len) (farthest 𝓛 (d ▹ s) (size above))) (valley 𝓛 w d c s above)
-  valley-within w d c s above h = every-keep (λ x. AtMost 𝓛 (x .len) (farthest 𝓛 (d ▹ s) (size above))) (w c above) (record { cell = c; len = d ▹ s }) (cellsAbove 𝓛 w (d ▹ s) above) (far-out (size above) (d ▹ s)) h
+      → Every (λ x. AtMost 𝓛 (x .len) (farthest 𝓛 (d ▹ s) (size above))) (cellsAbove 𝓛 w (d ▹ s) above)
+      → Every (λ x. AtMost 𝓛 (x .len) (farthest 𝓛 (d ▹ s) (size above))) (valley 𝓛 w d c s above)
+  valley-within w d c s above h = every-keep (λ x. AtMost 𝓛 (x .len) (farthest 𝓛 (d ▹ s) (size above))) (w c above)
+      (record { cell = c; len = d ▹ s }) (cellsAbove 𝓛 w (d ▹ s) above) (far-out (size above) (d ▹ s)) h
 
-  within : (w : Which S) (d : Len) (f : Forest S) → Every (λ x. AtMost 𝓛 (x .len) (farthest 𝓛 d (size f))) (cellsAbove 𝓛 w d f)
+  within : (w : Which S) (d : Len) (f : Forest S) → Every (λ x. AtMost 𝓛 (x .len) (farthest 𝓛 d (size f)))
+      (cellsAbove 𝓛 w d f)
   within w d bare = tt
-  within w d (tree c s above rest) = rw (keep-append (w c above) (record { cell = c; len = d ▹ s }) (cellsAbove 𝓛 w (d ▹ s) above) (cellsAbove 𝓛 w d rest)) (
-      every-append (λ x. AtMost 𝓛 (x .len) (farthest 𝓛 d (size (tree c s above rest)))) (valley 𝓛 w d c s above) (cellsAbove 𝓛 w d rest)
+  within w d (tree c s above rest) =
+      rw (keep-append (w c above) (record { cell = c; len = d ▹ s }) (cellsAbove 𝓛 w (d ▹ s) above)
+      (cellsAbove 𝓛 w d rest)) (
+      every-append (λ x. AtMost 𝓛 (x .len) (farthest 𝓛 d (size (tree c s above rest)))) (valley 𝓛 w d c s above)
+      (cellsAbove 𝓛 w d rest)
       (wider (farthest 𝓛 (d ▹ s) (size above)) (farthest 𝓛 d (size (tree c s above rest))) (valley 𝓛 w d c s above)
-      (trans (farthest 𝓛 (d ▹ s) (size above)) (farthest 𝓛 d (suc (size above))) (farthest 𝓛 d (size (tree c s above rest))) (far-mono (size above) (d ▹ s) (d ▹ top) (at-top d s)) (far-more (suc (size above)) (size (tree c s above rest)) d (omega arith)))
+      (trans (farthest 𝓛 (d ▹ s) (size above)) (farthest 𝓛 d (suc (size above)))
+      (farthest 𝓛 d (size (tree c s above rest))) (far-mono (size above) (d ▹ s) (d ▹ top) (at-top d s))
+      (far-more (suc (size above)) (size (tree c s above rest)) d (omega arith)))
       (valley-within w d c s above (within w (d ▹ s) above)))
-      (wider (farthest 𝓛 d (size rest)) (farthest 𝓛 d (size (tree c s above rest))) (cellsAbove 𝓛 w d rest) (far-more (size rest) (size (tree c s above rest)) d (omega arith)) (within w d rest)))
+      (wider (farthest 𝓛 d (size rest)) (farthest 𝓛 d (size (tree c s above rest))) (cellsAbove 𝓛 w d rest)
+      (far-more (size rest) (size (tree c s above rest)) d (omega arith)) (within w d rest)))
 
   module _ (rule : Rule 𝓛) (covers : Covers rule) where
     -- a dropped valley is met in vain
     pub drop-vain : (gs : List (At Len)) (d : Len) (c : ℕ) (s : S) (above : Forest S)
-        → belowGreatest 𝓛 gs (rule .limit d s (suc (size above))) ≡ true → meets 𝓛 gs (valley 𝓛 (rule .meets) d c s above) ≡ gs
+        → belowGreatest 𝓛 gs (rule .limit d s (suc (size above))) ≡ true
+        → meets 𝓛 gs (valley 𝓛 (rule .meets) d c s above) ≡ gs
     unfolding Covers
     drop-vain [] d c s above h = absurd (true≢false (sym h))
     drop-vain (g ∷ gs) d c s above h = meets-vain 𝓛 laws g gs (valley 𝓛 (rule .meets) d c s above)
         (every-map (λ x. AtMost 𝓛 (x .len) (farthest 𝓛 (d ▹ s) (size above))) (λ x. shorter (x .len) (g .len) ≡ true)
-        (λ x i. le-lt 𝓛 laws (x .len) (rule .limit d s (suc (size above))) (g .len) (trans (x .len) (farthest 𝓛 (d ▹ s) (size above)) (rule .limit d s (suc (size above))) i (covers d s (size above))) h)
+        (λ x i. le-lt 𝓛 laws (x .len) (rule .limit d s (suc (size above))) (g .len)
+        (trans (x .len) (farthest 𝓛 (d ▹ s) (size above)) (rule .limit d s (suc (size above))) i
+        (covers d s (size above))) h)
         (valley 𝓛 (rule .meets) d c s above) (valley-within (rule .meets) d c s above (within (rule .meets) (d ▹ s) above)))
 
     -- the search has met the lengths of all the cells that count, whatever it dropped
-    pub search-meets : (d : Len) (st : State 𝓛) (f : Forest S) → (search 𝓛 rule d st f) .starts ≡ meets 𝓛 (st .starts) (cellsAbove 𝓛 (rule .meets) d f)
+    pub search-meets : (d : Len) (st : State 𝓛) (f : Forest S) → (search 𝓛 rule d st f) .starts ≡ meets 𝓛 (st .starts)
+        (cellsAbove 𝓛 (rule .meets) d f)
     unfolding meets
     search-meets d st bare = refl
     search-meets d st (tree c s above rest) =
-        go (drops 𝓛 rule (st .starts) d s (suc (size above))) refl (λ st′. search-meets d st′ rest) (search-meets (d ▹ s) (visit 𝓛 rule st c (d ▹ s) above) above)
-        ∙ sym (ap (meets 𝓛 (st .starts)) (keep-append (rule .meets c above) (record { cell = c; len = d ▹ s }) (cellsAbove 𝓛 (rule .meets) (d ▹ s) above) (cellsAbove 𝓛 (rule .meets) d rest)) ∙ meets-append 𝓛 (st .starts) (valley 𝓛 (rule .meets) d c s above) (cellsAbove 𝓛 (rule .meets) d rest))
+        go (drops 𝓛 rule (st .starts) d s (suc (size above))) refl (λ st′. search-meets d st′ rest)
+        (search-meets (d ▹ s) (visit 𝓛 rule st c (d ▹ s) above) above)
+        ∙ sym (ap (meets 𝓛 (st .starts)) (keep-append (rule .meets c above) (record { cell = c; len = d ▹ s })
+        (cellsAbove 𝓛 (rule .meets) (d ▹ s) above) (cellsAbove 𝓛 (rule .meets) d rest))
+        ∙ meets-append 𝓛 (st .starts) (valley 𝓛 (rule .meets) d c s above) (cellsAbove 𝓛 (rule .meets) d rest))
       where
         go : (b : Bool) → drops 𝓛 rule (st .starts) d s (suc (size above)) ≡ b
-            → ((st′ : State 𝓛) → (search 𝓛 rule d st′ rest) .starts ≡ meets 𝓛 (st′ .starts) (cellsAbove 𝓛 (rule .meets) d rest))
-            → (search 𝓛 rule (d ▹ s) (visit 𝓛 rule st c (d ▹ s) above) above) .starts ≡ meets 𝓛 (meetIf 𝓛 (rule .meets c above) (st .starts) (record { cell = c; len = d ▹ s })) (cellsAbove 𝓛 (rule .meets) (d ▹ s) above)
-            → (search 𝓛 rule d st (tree c s above rest)) .starts ≡ meets 𝓛 (meets 𝓛 (st .starts) (valley 𝓛 (rule .meets) d c s above)) (cellsAbove 𝓛 (rule .meets) d rest)
-        go true e ihr iha = rw (search-dropped 𝓛 rule d st c s above rest e) (ihr (drop 𝓛 st (suc (size above))) ∙ ap (λ gs. meets 𝓛 gs (cellsAbove 𝓛 (rule .meets) d rest)) (sym (drop-vain (st .starts) d c s above (and-right (rule .dropping) (belowGreatest 𝓛 (st .starts) (rule .limit d s (suc (size above)))) e))))
-        go false e ihr iha = rw (search-entered 𝓛 rule d st c s above rest e) (ihr (search 𝓛 rule (d ▹ s) (visit 𝓛 rule st c (d ▹ s) above) above) ∙ ap (λ gs. meets 𝓛 gs (cellsAbove 𝓛 (rule .meets) d rest)) (iha ∙ meets-keep 𝓛 (rule .meets c above) (st .starts) (record { cell = c; len = d ▹ s }) (cellsAbove 𝓛 (rule .meets) (d ▹ s) above)))
+            → ((st′ : State 𝓛) → (search 𝓛 rule d st′ rest) .starts ≡ meets 𝓛 (st′ .starts)
+            (cellsAbove 𝓛 (rule .meets) d rest))
+            → (search 𝓛 rule (d ▹ s) (visit 𝓛 rule st c (d ▹ s) above) above) .starts
+            ≡ meets 𝓛 (meetIf 𝓛 (rule .meets c above) (st .starts) (record { cell = c; len = d ▹ s }))
+            (cellsAbove 𝓛 (rule .meets) (d ▹ s) above)
+            → (search 𝓛 rule d st (tree c s above rest)) .starts
+            ≡ meets 𝓛 (meets 𝓛 (st .starts) (valley 𝓛 (rule .meets) d c s above)) (cellsAbove 𝓛 (rule .meets) d rest)
+        go true e ihr iha = rw (search-dropped 𝓛 rule d st c s above rest e) (ihr (drop 𝓛 st (suc (size above)))
+            ∙ ap (λ gs. meets 𝓛 gs (cellsAbove 𝓛 (rule .meets) d rest))
+            (sym (drop-vain (st .starts) d c s above
+            (and-right (rule .dropping) (belowGreatest 𝓛 (st .starts) (rule .limit d s (suc (size above)))) e))))
+        go false e ihr iha = rw (search-entered 𝓛 rule d st c s above rest e)
+            (ihr (search 𝓛 rule (d ▹ s) (visit 𝓛 rule st c (d ▹ s) above) above)
+            ∙ ap (λ gs. meets 𝓛 gs (cellsAbove 𝓛 (rule .meets) d rest)) (iha
+            ∙ meets-keep 𝓛 (rule .meets c above) (st .starts) (record { cell = c; len = d ▹ s })
+            (cellsAbove 𝓛 (rule .meets) (d ▹ s) above)))
 
     -- THE THEOREM: the starts are the longest of the cells that count, in order
-    pub search-longest : (o : ℕ) (above : Forest S) → (searchFrom 𝓛 rule o above) .starts ≡ longest 𝓛 (cellsFrom 𝓛 (rule .meets) o above)
+    pub search-longest : (o : ℕ) (above : Forest S) → (searchFrom 𝓛 rule o above) .starts
+        ≡ longest 𝓛 (cellsFrom 𝓛 (rule .meets) o above)
     unfolding meets
     search-longest o above =
         search-meets start (visit 𝓛 rule (fresh 𝓛) o start above) above
@@ -119,16 +166,24 @@ module _ {S : Type 0} (𝓛 : Lengths S) (rule : Rule 𝓛) where
       → (search 𝓛 rule d st f) .visited + (search 𝓛 rule d st f) .dropped ≡ st .visited + st .dropped + size f
   search-counts d st bare = omega arith
   search-counts d st (tree c s above rest) =
-      go (drops 𝓛 rule (st .starts) d s (suc (size above))) refl (λ st′. search-counts d st′ rest) (search-counts (d ▹ s) (visit 𝓛 rule st c (d ▹ s) above) above)
+      go (drops 𝓛 rule (st .starts) d s (suc (size above))) refl (λ st′. search-counts d st′ rest)
+      (search-counts (d ▹ s) (visit 𝓛 rule st c (d ▹ s) above) above)
     where
       go : (b : Bool) → drops 𝓛 rule (st .starts) d s (suc (size above)) ≡ b
-          → ((st′ : State 𝓛) → (search 𝓛 rule d st′ rest) .visited + (search 𝓛 rule d st′ rest) .dropped ≡ st′ .visited + st′ .dropped + size rest)
-          → (search 𝓛 rule (d ▹ s) (visit 𝓛 rule st c (d ▹ s) above) above) .visited + (search 𝓛 rule (d ▹ s) (visit 𝓛 rule st c (d ▹ s) above) above) .dropped ≡ st .visited + 1 + st .dropped + size above
-          → (search 𝓛 rule d st (tree c s above rest)) .visited + (search 𝓛 rule d st (tree c s above rest)) .dropped ≡ st .visited + st .dropped + size (tree c s above rest)
-      go true e ihr iha = rw (search-dropped 𝓛 rule d st c s above rest e) (omega (arith, ihr (drop 𝓛 st (suc (size above)))))
-      go false e ihr iha = rw (search-entered 𝓛 rule d st c s above rest e) (omega (arith, iha, ihr (search 𝓛 rule (d ▹ s) (visit 𝓛 rule st c (d ▹ s) above) above)))
+          → ((st′ : State 𝓛) → (search 𝓛 rule d st′ rest) .visited + (search 𝓛 rule d st′ rest) .dropped
+          ≡ st′ .visited + st′ .dropped + size rest)
+          → (search 𝓛 rule (d ▹ s) (visit 𝓛 rule st c (d ▹ s) above) above) .visited +
+          (search 𝓛 rule (d ▹ s) (visit 𝓛 rule st c (d ▹ s) above) above) .dropped
+          ≡ st .visited + 1 + st .dropped + size above
+          → (search 𝓛 rule d st (tree c s above rest)) .visited + (search 𝓛 rule d st (tree c s above rest)) .dropped
+          ≡ st .visited + st .dropped + size (tree c s above rest)
+      go true e ihr iha = rw (search-dropped 𝓛 rule d st c s above rest e)
+          (omega (arith, ihr (drop 𝓛 st (suc (size above)))))
+      go false e ihr iha = rw (search-entered 𝓛 rule d st c s above rest e)
+          (omega (arith, iha, ihr (search 𝓛 rule (d ▹ s) (visit 𝓛 rule st c (d ▹ s) above) above)))
 
-  pub search-all : (o : ℕ) (above : Forest S) → (searchFrom 𝓛 rule o above) .visited + (searchFrom 𝓛 rule o above) .dropped ≡ suc (size above)
+  pub search-all : (o : ℕ) (above : Forest S)
+      → (searchFrom 𝓛 rule o above) .visited + (searchFrom 𝓛 rule o above) .dropped ≡ suc (size above)
   search-all o above = omega (arith, search-counts start (visit 𝓛 rule (fresh 𝓛) o start above) above)
 
   -- without dropping nothing is dropped
@@ -138,8 +193,10 @@ module _ {S : Type 0} (𝓛 : Lengths S) (rule : Rule 𝓛) where
 
     search-whole : (d : Len) (st : State 𝓛) (f : Forest S) → (search 𝓛 rule d st f) .dropped ≡ st .dropped
     search-whole d st bare = refl
-    search-whole d st (tree c s above rest) = rw (search-entered 𝓛 rule d st c s above rest (none-drops (st .starts) d s (suc (size above))))
-        (search-whole d (search 𝓛 rule (d ▹ s) (visit 𝓛 rule st c (d ▹ s) above) above) rest ∙ search-whole (d ▹ s) (visit 𝓛 rule st c (d ▹ s) above) above)
+    search-whole d st (tree c s above rest) =
+        rw (search-entered 𝓛 rule d st c s above rest (none-drops (st .starts) d s (suc (size above))))
+        (search-whole d (search 𝓛 rule (d ▹ s) (visit 𝓛 rule st c (d ▹ s) above) above) rest
+        ∙ search-whole (d ▹ s) (visit 𝓛 rule st c (d ▹ s) above) above)
 
     pub none-dropped : (o : ℕ) (above : Forest S) → (searchFrom 𝓛 rule o above) .dropped ≡ 0
     none-dropped o above = search-whole start (visit 𝓛 rule (fresh 𝓛) o start above) above

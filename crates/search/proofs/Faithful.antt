@@ -31,26 +31,33 @@ unfoldable pub climb : Grid → ℕ → List Dir → Option ℕ
 climb g x [] = some x
 climb g x (d ∷ ds) = elim (neighbour g x d) [ none ↦ none | some y ↦ climb g y ds ]
 
-climb-last : (g : Grid) (x y z : ℕ) (ds : List Dir) (d : Dir) → climb g x ds ≡ some y → neighbour g y d ≡ some z → climb g x (ds ++ (d ∷ [])) ≡ some z
+climb-last : (g : Grid) (x y z : ℕ) (ds : List Dir) (d : Dir) → climb g x ds ≡ some y → neighbour g y d ≡ some z
+    → climb g x (ds ++ (d ∷ [])) ≡ some z
 unfolding climb
 climb-last g x y z [] d e f = let q : x ≡ y = cc in rw (ap (λ (w : ℕ). neighbour g w d) q ∙ f, climb)
 climb-last g x y z (c ∷ ds) d e f = go (neighbour g x c) refl (λ w. climb-last g w y z ds d)
   where
-    go : (o : Option ℕ) → neighbour g x c ≡ o → ((w : ℕ) → climb g w ds ≡ some y → neighbour g y d ≡ some z → climb g w (ds ++ (d ∷ [])) ≡ some z) → climb g x (c ∷ (ds ++ (d ∷ []))) ≡ some z
+    go : (o : Option ℕ) → neighbour g x c ≡ o → ((w : ℕ) → climb g w ds ≡ some y → neighbour g y d ≡ some z
+        → climb g w (ds ++ (d ∷ [])) ≡ some z) → climb g x (c ∷ (ds ++ (d ∷ []))) ≡ some z
     go none h ih = let p : none ≡ some y = sym (rw (h, climb)) ∙ e in cc
     go (some w) h ih = rw (h, climb) (ih w (sym (rw (h, climb)) ∙ e) f)
 
-trees-map : {S : Type 0} (P Q : ℕ → Forest S → Type 0) → ((c : ℕ) (f : Forest S) → P c f → Q c f) → (f : Forest S) → AllTrees P f → AllTrees Q f
+trees-map : {S : Type 0} (P Q : ℕ → Forest S → Type 0) → ((c : ℕ) (f : Forest S) → P c f → Q c f) → (f : Forest S)
+    → AllTrees P f → AllTrees Q f
 trees-map P Q k bare h = tt
 trees-map P Q k (tree c s above rest) h = (k c above (h .0), trees-map P Q k above (h .1), trees-map P Q k rest (h .2))
 
 module _ (g : Grid) (a : List ℕ) (h : agrees g a ≡ true) (outlets : List ℕ) where
   -- in the search, what lies above a cell is its forest, and its n is its subaccumulation
-  pub tree-sub : (x : ℕ) → ground g x ≡ true → AllTrees (λ c up. (up ≡ forest g outlets c) × (suc (size up) ≡ subaccumulation g outlets c)) (forest g outlets x)
+  pub tree-sub : (x : ℕ) → ground g x ≡ true
+      → AllTrees (λ c up. (up ≡ forest g outlets c) × (suc (size up) ≡ subaccumulation g outlets c)) (forest g outlets x)
   unfolding forest
-  tree-sub x v = trees-map (λ c up. (ground g c ≡ true) × (up ≡ upstream (inflows g) (isOutlet g outlets) (places g) c)) (λ c up. (up ≡ forest g outlets c) × (suc (size up) ≡ subaccumulation g outlets c))
+  tree-sub x v = trees-map
+      (λ c up. (ground g c ≡ true) × (up ≡ upstream (inflows g) (isOutlet g outlets) (places g) c))
+      (λ c up. (up ≡ forest g outlets c) × (suc (size up) ≡ subaccumulation g outlets c))
       (λ c up p. (p .1, ap (λ f. suc (size f)) (p .1) ∙ sym (sub-size g a h outlets c (p .0))))
-      (forest g outlets x) (forest-trees (next g) (inflows g) (ground g) (places g) (𝓝 g) (λ y. getD a y 0) (lent g a h) (isOutlet g outlets) x v)
+      (forest g outlets x) (forest-trees (next g) (inflows g) (ground g) (places g) (𝓝 g) (λ y. getD a y 0)
+      (lent g a h) (isOutlet g outlets) x v)
 
   -- "Headwater: subaccumulation 1." At such cells the search meets a length
   pub headwater-is : (x : ℕ) → ground g x ≡ true → headwater x (forest g outlets x) ≡ isHeadwater g outlets x
@@ -61,12 +68,17 @@ module _ (g : Grid) (a : List ℕ) (h : agrees g a ≡ true) (outlets : List ℕ
       go (tree c s above rest) e = sym (ne-eqb (subaccumulation g outlets x) 1 (λ k. omega arith))
 
   -- the route of a cell leads from its outlet up to it
-  climb-route : (n c : ℕ) (b : At Length) → firstOutlet squares (next g) (isOutlet g outlets) n c ≡ some b → climb g (b .cell) (route (next g) (isOutlet g outlets) n c) ≡ some c
+  climb-route : (n c : ℕ) (b : At Length) → firstOutlet squares (next g) (isOutlet g outlets) n c ≡ some b
+      → climb g (b .cell) (route (next g) (isOutlet g outlets) n c) ≡ some c
   unfolding climb
-  climb-route = first-induct squares (next g) (isOutlet g outlets) (λ n c b. climb g (b .cell) (route (next g) (isOutlet g outlets) n c) ≡ some c)
+  climb-route = first-induct squares (next g) (isOutlet g outlets)
+      (λ n c b. climb g (b .cell) (route (next g) (isOutlet g outlets) n c) ≡ some c)
       (λ n c v. ap (climb g c) (route-out (next g) (isOutlet g outlets) n c v))
       (λ n c k b v f e ih. ap (climb g (b .cell)) (route-next (next g) (isOutlet g outlets) n c k v f)
-      ∙ climb-last g (b .cell) (k .cell) c (route (next g) (isOutlet g outlets) n (k .cell)) (opposite (k .step)) ih (next-back g c k f))
+      ∙ climb-last g (b .cell) (k .cell) c (route (next g) (isOutlet g outlets) n (k .cell)) (opposite (k .step)) ih
+      (next-back g c k f))
 
-  pub route-climbs : (o c : ℕ) (l : Length) → member o outlets ≡ true → ground g o ≡ true → HasLength g outlets o c l → climb g o (route (next g) (isOutlet g outlets) (places g) c) ≡ some c
-  route-climbs o c l u v p = climb-route (places g) c (record { cell = o; len = l }) (length-first g a h outlets o u v c l .0 p)
+  pub route-climbs : (o c : ℕ) (l : Length) → member o outlets ≡ true → ground g o ≡ true → HasLength g outlets o c l
+      → climb g o (route (next g) (isOutlet g outlets) (places g) c) ≡ some c
+  route-climbs o c l u v p = climb-route (places g) c (record { cell = o; len = l })
+      (length-first g a h outlets o u v c l .0 p)

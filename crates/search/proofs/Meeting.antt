@@ -29,7 +29,8 @@ module _ {S : Type 0} (𝓛 : Lengths S) where
     pub meet-longer : shorter (x .len) (g .len) ≡ false → shorter (g .len) (x .len) ≡ true → meet 𝓛 (g ∷ gs) x ≡ x ∷ []
     meet-longer e f = rw (e, f, meet)
 
-    pub meet-tie : shorter (x .len) (g .len) ≡ false → shorter (g .len) (x .len) ≡ false → meet 𝓛 (g ∷ gs) x ≡ (g ∷ gs) ++ (x ∷ [])
+    pub meet-tie : shorter (x .len) (g .len) ≡ false → shorter (g .len) (x .len) ≡ false
+        → meet 𝓛 (g ∷ gs) x ≡ (g ∷ gs) ++ (x ∷ [])
     meet-tie e f = rw (e, f, meet)
 
   -- these lengths met one after the other
@@ -44,13 +45,15 @@ module _ {S : Type 0} (𝓛 : Lengths S) where
 
   pub exceeded-append : (xs ys : List (At Len)) (l : Len) → exceeded 𝓛 (xs ++ ys) l ≡ (exceeded 𝓛 xs l || exceeded 𝓛 ys l)
   exceeded-append [] ys l = refl
-  exceeded-append (x ∷ xs) ys l = ap (λ b. shorter l (x .len) || b) (exceeded-append xs ys l) ∙ sym (or-assoc (shorter l (x .len)) (exceeded 𝓛 xs l) (exceeded 𝓛 ys l))
+  exceeded-append (x ∷ xs) ys l = ap (λ b. shorter l (x .len) || b) (exceeded-append xs ys l)
+      ∙ sym (or-assoc (shorter l (x .len)) (exceeded 𝓛 xs l) (exceeded 𝓛 ys l))
 
   -- those that are not shorter than l
   unfoldable pub tops : Len → List (At Len) → List (At Len)
   tops l xs = only (λ x. not (shorter (x .len) l)) xs
 
-  pub meets-keep : (b : Bool) (gs : List (At Len)) (x : At Len) (xs : List (At Len)) → meets (meetIf 𝓛 b gs x) xs ≡ meets gs (keepIf b x xs)
+  pub meets-keep : (b : Bool) (gs : List (At Len)) (x : At Len) (xs : List (At Len))
+      → meets (meetIf 𝓛 b gs x) xs ≡ meets gs (keepIf b x xs)
   unfolding meets
   meets-keep true gs x xs = refl
   meets-keep false gs x xs = refl
@@ -86,7 +89,8 @@ module _ {S : Type 0} (𝓛 : Lengths S) (laws : LengthLaws 𝓛) where
     pub all : g ∷ gs ≡ tops 𝓛 (g .len) xs
 
   -- what is not exceeded is at most g
-  pub leads-bound : {xs : List (At Len)} {g : At Len} {gs : List (At Len)} → Leads xs g gs → Every (λ x. AtMost 𝓛 (x .len) (g .len)) xs
+  pub leads-bound : {xs : List (At Len)} {g : At Len} {gs : List (At Len)} → Leads xs g gs
+      → Every (λ x. AtMost 𝓛 (x .len) (g .len)) xs
   leads-bound {xs} {g} i = go xs (i .greatest (g .len) ∙ irrefl (g .len))
     where
       go : (ys : List (At Len)) → exceeded 𝓛 ys (g .len) ≡ false → Every (λ x. AtMost 𝓛 (x .len) (g .len)) ys
@@ -100,7 +104,8 @@ module _ {S : Type 0} (𝓛 : Lengths S) (laws : LengthLaws 𝓛) where
   -- one more
   module _ (xs : List (At Len)) (g : At Len) (gs : List (At Len)) (i : Leads xs g gs) (x : At Len) where
     stays : AtMost 𝓛 (x .len) (g .len) → (l : Len) → exceeded 𝓛 (xs ++ (x ∷ [])) l ≡ shorter l (g .len)
-    stays h l = exceeded-append 𝓛 xs (x ∷ []) l ∙ ap (λ b. b || (shorter l (x .len) || false)) (i .greatest l) ∙ go (shorter l (g .len)) refl
+    stays h l = exceeded-append 𝓛 xs (x ∷ []) l ∙ ap (λ b. b || (shorter l (x .len) || false)) (i .greatest l)
+        ∙ go (shorter l (g .len)) refl
       where
         go : (b : Bool) → shorter l (g .len) ≡ b → (b || (shorter l (x .len) || false)) ≡ b
         go true e = refl
@@ -108,19 +113,30 @@ module _ {S : Type 0} (𝓛 : Lengths S) (laws : LengthLaws 𝓛) where
 
     more : (b : Bool) → not (shorter (x .len) (g .len)) ≡ b → g ∷ gs ++ keepIf b x [] ≡ tops 𝓛 (g .len) (xs ++ (x ∷ []))
     unfolding tops
-    more b e = rw (only-append (λ y. not (shorter (y .len) (g .len))) xs (x ∷ []), e) (ap (λ l. l ++ keepIf b x []) (i .all))
+    more b e = rw (only-append (λ y. not (shorter (y .len) (g .len))) xs (x ∷ []), e)
+        (ap (λ l. l ++ keepIf b x []) (i .all))
 
     lead-shorter : shorter (x .len) (g .len) ≡ true → Leads (xs ++ (x ∷ [])) g gs
-    lead-shorter h = record { greatest = stays (asym (x .len) (g .len) h); all = sym (append-nil (g ∷ gs)) ∙ more false (ap not h) }
+    lead-shorter h = record {
+      greatest = stays (asym (x .len) (g .len) h);
+      all = sym (append-nil (g ∷ gs))
+          ∙ more false (ap not h);
+    }
 
-    lead-tie : shorter (x .len) (g .len) ≡ false → shorter (g .len) (x .len) ≡ false → Leads (xs ++ (x ∷ [])) g (gs ++ (x ∷ []))
+    lead-tie : shorter (x .len) (g .len) ≡ false → shorter (g .len) (x .len) ≡ false
+        → Leads (xs ++ (x ∷ [])) g (gs ++ (x ∷ []))
     lead-tie h e = record { greatest = stays e; all = more true (ap not h) }
 
     lead-longer : shorter (g .len) (x .len) ≡ true → Leads (xs ++ (x ∷ [])) x []
     unfolding tops
     lead-longer h = record {
-      greatest = λ l. exceeded-append 𝓛 xs (x ∷ []) l ∙ ap (λ b. b || (shorter l (x .len) || false)) (i .greatest l) ∙ go l (shorter l (g .len)) refl;
-      all = rw (only-append (λ y. not (shorter (y .len) (x .len))) xs (x ∷ []), only-none (λ y. not (shorter (y .len) (x .len))) xs gone, irrefl (x .len));
+      greatest = λ l. exceeded-append 𝓛 xs (x ∷ []) l ∙ ap (λ b. b || (shorter l (x .len) || false)) (i .greatest l)
+          ∙ go l (shorter l (g .len)) refl;
+      all = rw (
+        only-append (λ y. not (shorter (y .len) (x .len))) xs (x ∷ []),
+        only-none (λ y. not (shorter (y .len) (x .len))) xs gone,
+        irrefl (x .len),
+      );
     }
       where
         go : (l : Len) (b : Bool) → shorter l (g .len) ≡ b → (b || (shorter l (x .len) || false)) ≡ shorter l (x .len)
@@ -128,15 +144,20 @@ module _ {S : Type 0} (𝓛 : Lengths S) (laws : LengthLaws 𝓛) where
         go l false e = or-off (shorter l (x .len))
 
         gone : Every (λ y. not (shorter (y .len) (x .len)) ≡ false) xs
-        gone = every-map (λ y. AtMost 𝓛 (y .len) (g .len)) (λ y. not (shorter (y .len) (x .len)) ≡ false) (λ y k. ap not (le-lt (y .len) (g .len) (x .len) k h)) xs (leads-bound i)
+        gone = every-map (λ y. AtMost 𝓛 (y .len) (g .len)) (λ y. not (shorter (y .len) (x .len)) ≡ false)
+            (λ y k. ap not (le-lt (y .len) (g .len) (x .len) k h)) xs (leads-bound i)
 
-  pub leads-meets : (xs : List (At Len)) (g : At Len) (gs : List (At Len)) → Leads xs g gs → (ys : List (At Len)) → meets 𝓛 (g ∷ gs) ys ≡ longest 𝓛 (xs ++ ys)
+  pub leads-meets : (xs : List (At Len)) (g : At Len) (gs : List (At Len)) → Leads xs g gs → (ys : List (At Len))
+      → meets 𝓛 (g ∷ gs) ys ≡ longest 𝓛 (xs ++ ys)
   unfolding meets
   leads-meets xs g gs i [] = rw (append-nil xs) (sym (leads-longest i))
-  leads-meets xs g gs i (y ∷ ys) = go (λ g′ gs′ k. leads-meets (xs ++ (y ∷ [])) g′ gs′ k ys ∙ ap (longest 𝓛) (append-assoc xs (y ∷ []) ys)) (shorter (y .len) (g .len)) refl (shorter (g .len) (y .len)) refl
+  leads-meets xs g gs i (y ∷ ys) = go (λ g′ gs′ k. leads-meets (xs ++ (y ∷ [])) g′ gs′ k ys
+      ∙ ap (longest 𝓛) (append-assoc xs (y ∷ []) ys)) (shorter (y .len) (g .len)) refl (shorter (g .len) (y .len)) refl
     where
-      go : ((g′ : At Len) (gs′ : List (At Len)) → Leads (xs ++ (y ∷ [])) g′ gs′ → meets 𝓛 (g′ ∷ gs′) ys ≡ longest 𝓛 (xs ++ (y ∷ ys)))
-          → (b : Bool) → shorter (y .len) (g .len) ≡ b → (c : Bool) → shorter (g .len) (y .len) ≡ c → meets 𝓛 (meet 𝓛 (g ∷ gs) y) ys ≡ longest 𝓛 (xs ++ (y ∷ ys))
+      go : ((g′ : At Len) (gs′ : List (At Len)) → Leads (xs ++ (y ∷ [])) g′ gs′
+          → meets 𝓛 (g′ ∷ gs′) ys ≡ longest 𝓛 (xs ++ (y ∷ ys)))
+          → (b : Bool) → shorter (y .len) (g .len) ≡ b → (c : Bool) → shorter (g .len) (y .len) ≡ c
+          → meets 𝓛 (meet 𝓛 (g ∷ gs) y) ys ≡ longest 𝓛 (xs ++ (y ∷ ys))
       go ih true e c f = rw (e, meet) (ih g gs (lead-shorter xs g gs i y e))
       go ih false e true f = rw (e, f, meet) (ih y [] (lead-longer xs g gs i y f))
       go ih false e false f = rw (e, f, meet) (ih g (gs ++ (y ∷ [])) (lead-tie xs g gs i y e f))
@@ -151,7 +172,8 @@ module _ {S : Type 0} (𝓛 : Lengths S) (laws : LengthLaws 𝓛) where
       first = record { greatest = λ l. or-off (shorter l (x .len)); all = rw (irrefl (x .len)) refl }
 
   -- what is shorter than the greatest is met in vain
-  pub meets-vain : (g : At Len) (gs xs : List (At Len)) → Every (λ x. shorter (x .len) (g .len) ≡ true) xs → meets 𝓛 (g ∷ gs) xs ≡ g ∷ gs
+  pub meets-vain : (g : At Len) (gs xs : List (At Len)) → Every (λ x. shorter (x .len) (g .len) ≡ true) xs
+      → meets 𝓛 (g ∷ gs) xs ≡ g ∷ gs
   unfolding meets
   meets-vain g gs [] h = refl
   meets-vain g gs (x ∷ xs) h = rw (h .0, meet) (meets-vain g gs xs (h .1))
@@ -159,18 +181,24 @@ module _ {S : Type 0} (𝓛 : Lengths S) (laws : LengthLaws 𝓛) where
 module _ {S : Type 0} (𝓛 : Lengths S) where
   open Lengths 𝓛 using (Len, shorter)
 
-  exceeded-all : (xs : List (At Len)) (l : Len) → exceeded 𝓛 xs l ≡ false → (b : At Len) → In b xs → shorter l (b .len) ≡ false
+  exceeded-all : (xs : List (At Len)) (l : Len) → exceeded 𝓛 xs l ≡ false → (b : At Len) → In b xs
+      → shorter l (b .len) ≡ false
   exceeded-all [] l h b i = absurd i
-  exceeded-all (x ∷ xs) l h b (inl e) = ap (λ (y : At Len). shorter l (y .len)) e ∙ or-false (shorter l (x .len)) (exceeded 𝓛 xs l) h .0
+  exceeded-all (x ∷ xs) l h b (inl e) = ap (λ (y : At Len). shorter l (y .len)) e
+      ∙ or-false (shorter l (x .len)) (exceeded 𝓛 xs l) h .0
   exceeded-all (x ∷ xs) l h b (inr i) = exceeded-all xs l (or-false (shorter l (x .len)) (exceeded 𝓛 xs l) h .1) b i
 
-  all-exceeded : (xs : List (At Len)) (l : Len) → ((b : At Len) → In b xs → shorter l (b .len) ≡ false) → exceeded 𝓛 xs l ≡ false
+  all-exceeded : (xs : List (At Len)) (l : Len) → ((b : At Len) → In b xs → shorter l (b .len) ≡ false)
+      → exceeded 𝓛 xs l ≡ false
   all-exceeded [] l h = refl
   all-exceeded (x ∷ xs) l h = rw (h x (inl refl)) (all-exceeded xs l (λ b i. h b (inr i)))
 
   -- 01's "longest": listed, and no listed cell's length is greater
-  pub longest-is : (xs : List (At Len)) (a : At Len) → In a (longest 𝓛 xs) → In a xs × ((b : At Len) → In b xs → shorter (a .len) (b .len) ≡ false)
-  longest-is xs a i = let p = in-only (λ x. not (exceeded 𝓛 xs (x .len))) a xs i in (p .0, exceeded-all xs (a .len) (not-true (exceeded 𝓛 xs (a .len)) (p .1)))
+  pub longest-is : (xs : List (At Len)) (a : At Len) → In a (longest 𝓛 xs)
+      → In a xs × ((b : At Len) → In b xs → shorter (a .len) (b .len) ≡ false)
+  longest-is xs a i = let p = in-only (λ x. not (exceeded 𝓛 xs (x .len))) a xs i in
+      (p .0, exceeded-all xs (a .len) (not-true (exceeded 𝓛 xs (a .len)) (p .1)))
 
-  pub is-longest : (xs : List (At Len)) (a : At Len) → In a xs → ((b : At Len) → In b xs → shorter (a .len) (b .len) ≡ false) → In a (longest 𝓛 xs)
+  pub is-longest : (xs : List (At Len)) (a : At Len) → In a xs
+      → ((b : At Len) → In b xs → shorter (a .len) (b .len) ≡ false) → In a (longest 𝓛 xs)
   is-longest xs a i h = only-in (λ x. not (exceeded 𝓛 xs (x .len))) a xs i (ap not (all-exceeded xs (a .len) h))

@@ -30,11 +30,13 @@ module _ {S : Type 0} (𝓛 : Lengths S) where
     searchEach st [] = st
     searchEach st (p ∷ ps) = searchEach (search 𝓛 rule (p .from) st (tree (p .cell) (p .step) (p .above) bare)) ps
 
-    search-push : (d : Len) (f : Forest S) (st : State 𝓛) (ps : List (Pending 𝓛)) → searchEach st (push 𝓛 d f ps) ≡ searchEach (search 𝓛 rule d st f) ps
+    search-push : (d : Len) (f : Forest S) (st : State 𝓛) (ps : List (Pending 𝓛))
+        → searchEach st (push 𝓛 d f ps) ≡ searchEach (search 𝓛 rule d st f) ps
     search-push d bare st ps = refl
     search-push d (tree c s above rest) st ps = search-push d rest (search 𝓛 rule d st (tree c s above bare)) ps
 
-    pub drain-search : (n : ℕ) (st : State 𝓛) (ps : List (Pending 𝓛)) → waiting 𝓛 ps ≤ n → drain 𝓛 rule n st ps ≡ searchEach st ps
+    pub drain-search : (n : ℕ) (st : State 𝓛) (ps : List (Pending 𝓛)) → waiting 𝓛 ps ≤ n
+        → drain 𝓛 rule n st ps ≡ searchEach st ps
     drain-search zero st [] h = refl
     drain-search zero st (p ∷ ps) h = absurd (omega arith)
     drain-search (suc n) st [] h = refl
@@ -46,14 +48,18 @@ module _ {S : Type 0} (𝓛 : Lengths S) where
         own : Len
         own = p .from ▹ p .step
 
-        go : (b : Bool) → drops 𝓛 rule (st .starts) (p .from) (p .step) cells ≡ b → ((st′ : State 𝓛) (ps′ : List (Pending 𝓛)) → waiting 𝓛 ps′ ≤ n → drain 𝓛 rule n st′ ps′ ≡ searchEach st′ ps′)
+        go : (b : Bool) → drops 𝓛 rule (st .starts) (p .from) (p .step) cells ≡ b
+            → ((st′ : State 𝓛) (ps′ : List (Pending 𝓛)) → waiting 𝓛 ps′ ≤ n → drain 𝓛 rule n st′ ps′ ≡ searchEach st′ ps′)
             → drain 𝓛 rule (suc n) st (p ∷ ps) ≡ searchEach st (p ∷ ps)
-        go true e ih = rw (search-dropped 𝓛 rule (p .from) st (p .cell) (p .step) (p .above) bare e, e, drain) (ih (drop 𝓛 st cells) ps (omega arith))
+        go true e ih = rw (search-dropped 𝓛 rule (p .from) st (p .cell) (p .step) (p .above) bare e, e, drain)
+            (ih (drop 𝓛 st cells) ps (omega arith))
         go false e ih = rw (search-entered 𝓛 rule (p .from) st (p .cell) (p .step) (p .above) bare e, e, drain)
-            (ih (visit 𝓛 rule st (p .cell) own (p .above)) (push 𝓛 own (p .above) ps) (omega (arith, waiting-push own (p .above) ps))
+            (ih (visit 𝓛 rule st (p .cell) own (p .above)) (push 𝓛 own (p .above) ps)
+            (omega (arith, waiting-push own (p .above) ps))
             ∙ search-push own (p .above) (visit 𝓛 rule st (p .cell) own (p .above)) ps)
 
     -- THE SEARCH FROM PENDING CELLS
     pub drain-from : (o : ℕ) (above : Forest S) → drainFrom 𝓛 rule o above ≡ searchFrom 𝓛 rule o above
-    drain-from o above = drain-search (size above) (visit 𝓛 rule (fresh 𝓛) o start above) (push 𝓛 start above []) (omega (arith, waiting-push start above []))
+    drain-from o above = drain-search (size above) (visit 𝓛 rule (fresh 𝓛) o start above) (push 𝓛 start above [])
+        (omega (arith, waiting-push start above []))
         ∙ search-push start above (visit 𝓛 rule (fresh 𝓛) o start above) []

@@ -25,7 +25,8 @@ pub record Demand3 (g : Grid) (outlets : List ℕ) (may : ℕ → Bool) (o : ℕ
   -- in order: every earlier one parts from every later one by an earlier neighbour
   pub ordered : Sorted (Before g outlets) (t .starts)
   -- and no other list is so
-  pub unique : (xs : List ℕ) → ((c : ℕ) → In c xs ↔ Longest g outlets may o c) → Sorted (Before g outlets) xs → xs ≡ t .starts
+  pub unique : (xs : List ℕ) → ((c : ℕ) → In c xs ↔ Longest g outlets may o c) → Sorted (Before g outlets) xs
+      → xs ≡ t .starts
   -- each has the length told
   pub lengths : (c : ℕ) → In c (t .starts) → HasLength g outlets o c (t .len)
   -- the number of paths is theirs, and there is one

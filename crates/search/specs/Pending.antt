@@ -33,7 +33,8 @@ module _ {S : Type 0} (𝓛 : Lengths S) where
   drain rule (suc n) st [] = st
   drain rule (suc n) st (p ∷ ps) = elim (drops 𝓛 rule (st .starts) (p .from) (p .step) (suc (size (p .above)))) [
     | true ↦ drain rule n (drop 𝓛 st (suc (size (p .above)))) ps
-    | false ↦ drain rule n (visit 𝓛 rule st (p .cell) (p .from ▹ p .step) (p .above)) (push (p .from ▹ p .step) (p .above) ps)
+    | false ↦ drain rule n (visit 𝓛 rule st (p .cell) (p .from ▹ p .step) (p .above))
+        (push (p .from ▹ p .step) (p .above) ps)
   ]
 
   -- from the outlet, with a turn for each cell above it

@@ -37,7 +37,10 @@ order-of-requires c κs = search needs
 
 -- src/lib.rt:81:13
 returns : tie.Need-returns
-returns c = c .order-of .ensures ∙ ap₂ signOf (c .before .before .before .before .before .wide .ensures .0) (c .before .before .before .wide3 .ensures .0) ∙ sym (by-straight (c .before .before .before .before .before .before .args .self) (c .before .before .before .before .before .before .args .other) (omega arith))
+returns c = c .order-of .ensures ∙ ap₂ signOf (c .before .before .before .before .before .wide .ensures .0)
+    (c .before .before .before .wide3 .ensures .0)
+    ∙ sym (by-straight (c .before .before .before .before .before .before .args .self)
+    (c .before .before .before .before .before .before .args .other) (omega arith))
 
 -- src/lib.rt:84:13
 order-of-requires-2 : tie.Need-order-of-requires-2
@@ -45,11 +48,15 @@ order-of-requires-2 c κs = search needs
 
 -- src/lib.rt:84:13
 returns-2 : tie.Need-returns-2
-returns-2 c = c .order-of2 .ensures ∙ ap₂ signOf (c .before .before .before .before .before .wide2 .ensures .0) (c .before .before .before .wide4 .ensures .0) ∙ sym (by-diagonal (c .before .before .before .before .before .before .before .args .self) (c .before .before .before .before .before .before .before .args .other) (omega arith))
+returns-2 c = c .order-of2 .ensures ∙ ap₂ signOf (c .before .before .before .before .before .wide2 .ensures .0)
+    (c .before .before .before .wide4 .ensures .0)
+    ∙ sym (by-diagonal (c .before .before .before .before .before .before .before .args .self)
+    (c .before .before .before .before .before .before .before .args .other) (omega arith))
 
 -- src/lib.rt:88:17
 returns-3 : tie.Need-returns-3
-returns-3 c = sym (both-less (c .before .before .before .before .before .before .before .before .args .self) (c .before .before .before .before .before .before .before .before .args .other) (omega arith) (omega arith))
+returns-3 c = sym (both-less (c .before .before .before .before .before .before .before .before .args .self)
+    (c .before .before .before .before .before .before .before .before .args .other) (omega arith) (omega arith))
 
 -- src/lib.rt:90:26
 sub-is-larger : tie.Need-sub-is-larger
@@ -61,21 +68,28 @@ is-larger-requires c κs = search needs
 
 -- src/lib.rt:91:17
 returns-4 : tie.Need-returns-4
-returns-4 c = sym (less-more (c .before .before .before .before .before .before .before .before .before .before .args .self) (c .before .before .before .before .before .before .before .before .before .before .args .other)
-    (c .before .before .before .before .before .before .before .wide3 .result - c .before .before .before .before .before .before .before .before .before .wide .result)
-    (c .before .before .before .before .before .before .before .before .wide2 .result - c .before .before .before .before .before .before .wide4 .result)
+returns-4 c = sym (less-more (c .before .before .before .before .before .before .before .before .before .before .args
+    .self) (c .before .before .before .before .before .before .before .before .before .before .args .other)
+    (c .before .before .before .before .before .before .before .wide3 .result - c .before .before .before .before
+    .before .before .before .before .before .wide .result)
+    (c .before .before .before .before .before .before .before .before .wide2 .result - c .before .before .before
+    .before .before .before .wide4 .result)
     (omega arith) (omega arith) (omega arith) (omega arith) true (sym (c .before .is-larger .ensures) ∙ c .if5 .taken))
 
 -- src/lib.rt:93:13
 returns-5 : tie.Need-returns-5
-returns-5 c = sym (less-more (c .before .before .before .before .before .before .before .before .before .before .args .self) (c .before .before .before .before .before .before .before .before .before .before .args .other)
-    (c .before .before .before .before .before .before .before .wide3 .result - c .before .before .before .before .before .before .before .before .before .wide .result)
-    (c .before .before .before .before .before .before .before .before .wide2 .result - c .before .before .before .before .before .before .wide4 .result)
+returns-5 c = sym (less-more (c .before .before .before .before .before .before .before .before .before .before .args
+    .self) (c .before .before .before .before .before .before .before .before .before .before .args .other)
+    (c .before .before .before .before .before .before .before .wide3 .result - c .before .before .before .before
+    .before .before .before .before .before .wide .result)
+    (c .before .before .before .before .before .before .before .before .wide2 .result - c .before .before .before
+    .before .before .before .wide4 .result)
     (omega arith) (omega arith) (omega arith) (omega arith) false (sym (c .before .is-larger .ensures) ∙ c .if5 .left))
 
 -- src/lib.rt:96:13
 returns-6 : tie.Need-returns-6
-returns-6 c = sym (both-more (c .before .before .before .before .before .before .before .before .args .self) (c .before .before .before .before .before .before .before .before .args .other) (omega arith) (omega arith))
+returns-6 c = sym (both-more (c .before .before .before .before .before .before .before .before .args .self)
+    (c .before .before .before .before .before .before .before .before .args .other) (omega arith) (omega arith))
 
 -- src/lib.rt:98:12
 is-larger-requires-2 : tie.Need-is-larger-requires-2
@@ -83,16 +97,22 @@ is-larger-requires-2 c κs = search needs
 
 -- src/lib.rt:99:13
 returns-7 : tie.Need-returns-7
-returns-7 c = sym (more-less (c .before .before .before .before .before .before .before .before .before .before .args .self) (c .before .before .before .before .before .before .before .before .before .before .args .other)
-    (c .before .before .before .before .before .before .before .before .before .wide .result - c .before .before .before .before .before .before .before .wide3 .result)
-    (c .before .before .before .before .before .before .wide4 .result - c .before .before .before .before .before .before .before .before .wide2 .result)
+returns-7 c = sym (more-less (c .before .before .before .before .before .before .before .before .before .before .args
+    .self) (c .before .before .before .before .before .before .before .before .before .before .args .other)
+    (c .before .before .before .before .before .before .before .before .before .wide .result - c .before .before
+    .before .before .before .before .before .wide3 .result)
+    (c .before .before .before .before .before .before .wide4 .result - c .before .before .before .before .before
+    .before .before .before .wide2 .result)
     (omega arith) (omega arith) (omega arith) (omega arith) true (sym (c .before .is-larger2 .ensures) ∙ c .if7 .taken))
 
 -- src/lib.rt:73:5
 returns-8 : tie.Need-returns-8
-returns-8 c = sym (more-less (c .before .before .before .before .before .before .before .before .before .before .args .self) (c .before .before .before .before .before .before .before .before .before .before .args .other)
-    (c .before .before .before .before .before .before .before .before .before .wide .result - c .before .before .before .before .before .before .before .wide3 .result)
-    (c .before .before .before .before .before .before .wide4 .result - c .before .before .before .before .before .before .before .before .wide2 .result)
+returns-8 c = sym (more-less (c .before .before .before .before .before .before .before .before .before .before .args
+    .self) (c .before .before .before .before .before .before .before .before .before .before .args .other)
+    (c .before .before .before .before .before .before .before .before .before .wide .result - c .before .before
+    .before .before .before .before .before .wide3 .result)
+    (c .before .before .before .before .before .before .wide4 .result - c .before .before .before .before .before
+    .before .before .before .wide2 .result)
     (omega arith) (omega arith) (omega arith) (omega arith) false (sym (c .before .is-larger2 .ensures) ∙ c .if7 .left))
 
 pub compare-spec : {M : Type 1} → statement M
