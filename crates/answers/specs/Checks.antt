@@ -22,7 +22,7 @@ pub record Check : Type 0 where
 abbrev pub check : ℕ → Bool → Check
 check number passes = record { number = number; passes = passes }
 
--- "The first "no" gives its number. 0 is acceptance."
+-- 01, The checks: the answer is the number of the first question that fails, and 0 if none does
 unfoldable pub firstFailed : List Check → ℕ
 firstFailed [] = 0
 firstFailed (c ∷ cs) = cond (c .passes) (firstFailed cs) (c .number)
@@ -32,18 +32,18 @@ abbrev pub all : {A : Type 0} → (A → Bool) → List A → Bool
 all f [] = true
 all f (x ∷ xs) = f x && all f xs
 
--- "Are R and C each 1 to 4,096?" No product of R and C is taken before this
+-- 10: rows and columns are from 1 to 4,096 each. It is judged before any product of the two is taken
 abbrev pub isSide : ℕ → Bool
 isSide n = leb 1 n && leb n 4096
 
 unfoldable pub check10 : ℕ → ℕ → Check
 check10 rows cols = check 10 (isSide rows && isSide cols)
 
--- "Has each lent grid R × C places?" At least so many: the lengths of the lent lists are given
+-- 11: every lent grid has a place for each cell, or more. The lengths of the lent grids are given
 unfoldable pub check11 : ℕ → ℕ → List ℕ → Check
 check11 rows cols lent = check 11 (all (λ n. leb (rows * cols) n) lent)
 
--- "Is every code among the nine?" Of the first R × C
+-- 12: each of the first R × C codes is 0 or one of the eight directions'
 abbrev pub isDir : Option Dir → Bool
 isDir none = false
 isDir (some d) = true
@@ -54,23 +54,23 @@ isCode code = eqb code 0 || isDir (dirOf code)
 unfoldable pub check12 : Grid → Check
 check12 g = check 12 (allBelow (λ x. isCode (getD (g .codes) x 0)) (places g))
 
--- "Accumulating only: is the grid free of rings?"
+-- 13, when accumulating only: no walk comes back to a cell
 unfoldable pub check13 : Grid → Check
 check13 g = check 13 (ringFree g)
 
--- "All others: does the lent accumulation equal its definition's equation at each cell?"
+-- 14, for all other entries: the lent accumulation fulfils its equation at every cell
 unfoldable pub check14 : Grid → List ℕ → Check
 check14 g accumulation = check 14 (agrees g accumulation)
 
--- "Are there 1 to 256 outlets?"
+-- 15: the list has from 1 to 256 outlets
 unfoldable pub check15 : List ℕ → Check
 check15 outlets = check 15 (leb 1 (length outlets) && leb (length outlets) 256)
 
--- "Is each a non-null cell number below R × C?"
+-- 16: every outlet of the list is the number of a cell with ground
 unfoldable pub check16 : Grid → List ℕ → Check
 check16 g outlets = check 16 (all (λ o. ltb o (places g) && ground g o) outlets)
 
--- "All different?"
+-- 17: no outlet stands in the list twice
 abbrev pub different : List ℕ → Bool
 different [] = true
 different (x ∷ xs) = not (member x xs) && different xs
@@ -78,26 +78,26 @@ different (x ∷ xs) = not (member x xs) && different xs
 unfoldable pub check17 : List ℕ → Check
 check17 outlets = check 17 (different outlets)
 
--- "is the outlet's place in the list, from 0, below its length?"
+-- 18, tracing and drawing: the place asked for, counted from 0, is one of the list
 unfoldable pub check18 : List ℕ → ℕ → Check
 check18 outlets place = check 18 (ltb place (length outlets))
 
--- "Recursive tracing: is the outlet's subaccumulation at most 4,096?"
+-- 19, by recursion: the outlet has no more than 4,096 cells
 unfoldable pub check19 : Grid → List ℕ → ℕ → Check
 check19 g outlets o = check 19 (leb (subaccumulation g outlets o) 4096)
 
--- "Stack tracing: has the working space 3 × that subaccumulation of 32-bit numbers?"
+-- 20, by stack: the working space has three numbers for each of the outlet's cells
 unfoldable pub check20 : Grid → List ℕ → ℕ → List ℕ → Check
 check20 g outlets o work = check 20 (leb (3 * subaccumulation g outlets o) (length work))
 
--- "Tracing: has the list a place for each longest path?" Of the whole search's paths
+-- 21, tracing: the list has a place for each longest path that the whole search found
 unfoldable pub check21 : Tracing → List ℕ → Check
 check21 tracing starts = check 21 (leb (tracing .paths) (length starts))
 
--- "Drawing: is the start a cell of that subwatershed?"
+-- 22, drawing: the start lies in the outlet's subwatershed
 unfoldable pub check22 : Grid → List ℕ → ℕ → ℕ → Check
 check22 g outlets o start = check 22 (inSubwatershed g outlets o start)
 
--- "Drawing, writing: do the lent places hold it whole?"
+-- 23, drawing and writing: what is to be written fits the lent places
 unfoldable pub check23 : List ℕ → List ℕ → Check
 check23 whole lent = check 23 (leb (length whole) (length lent))

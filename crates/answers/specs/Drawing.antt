@@ -14,7 +14,7 @@ module _ (rows cols : ℕ) (codes accumulation outlets : List ℕ) (place start 
   abbrev grid : Grid
   grid = callGrid rows cols codes accumulation
 
-  -- "cell numbers from start to outlet"
+  -- the cells of the walk, the start first and the outlet last
   abbrev pub path : List ℕ
   path = pathFrom grid outlets start
 
@@ -29,6 +29,6 @@ module _ (rows cols : ℕ) (codes accumulation outlets : List ℕ) (place start 
   unfoldable pub drawLeaves : List ℕ
   drawLeaves = cond (eqb drawNumber 0) (overlaid path places) places
 
-  -- "hands back exactly that part of the lent places; on refusal the part is empty"
+  -- the part of the lent places that is handed back: the path and no more, and nothing on refusal
   unfoldable pub drawnPart : List ℕ
   drawnPart = cond (eqb drawNumber 0) path []

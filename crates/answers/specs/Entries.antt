@@ -20,8 +20,7 @@ use Rattle.answers.specs.Checks.{
   check17,
 }
 
--- the first places of what was lent hold these numbers, as many as there are places for; "Places beyond those an answer
--- needs keep their contents."
+-- the first places of a lent list hold these numbers, as many of them as there are places; what lies beyond is kept
 unfoldable pub overlaid : List ℕ → List ℕ → List ℕ
 overlaid new old = take (length old) new ++ drop (length new) old
 
@@ -48,7 +47,7 @@ module _ (rows cols : ℕ) (codes accumulation : List ℕ) where
   unfoldable pub accumulateNumber : ℕ
   accumulateNumber = firstFailed (gridChecks (length codes ∷ length accumulation ∷ []) ++ (check13 callGrid ∷ []))
 
-  -- on 0 the accumulation; "13 leaves the first R × C accumulation places 0"; on the others nothing changes
+  -- on 0 the accumulation, on 13 a 0 for each cell; on the other refusals nothing changes
   unfoldable pub accumulateLeaves : List ℕ
   accumulateLeaves =
       cond (eqb accumulateNumber 0) (overlaid (accumulations callGrid) accumulation)

@@ -24,8 +24,8 @@ numberOf (Refused number) = number
 abbrev pub answered : ℕ → ℕ → Answer → Traced
 answered visited dropped answer = record { visited = visited; dropped = dropped; answer = answer }
 
--- the answer to a number: "found with its length and number of paths, no place with the true number of paths, or another
--- refusal. Beside it stand visited and dropped, both 0 on every refusal but 21."
+-- the answer to each number: on 0 the length and how many paths there are; on 21 how many there are; else the number
+-- itself. What was visited and dropped is told with the first two, and is 0 with the others
 unfoldable pub tracedBy : ℕ → Tracing → Traced
 tracedBy number t =
     cond (eqb number 0) (answered (t .visited) (t .dropped) (Found (t .len .straight) (t .len .diagonal) (t .paths)))
@@ -64,15 +64,15 @@ module _ (dropping : Bool) (rows cols : ℕ) (codes accumulation outlets : List 
   unfoldable pub stackAnswer : List ℕ → Traced
   stackAnswer work = tracedBy (stackNumber work) chosenTracing
 
-  -- what either leaves, by its number. "19, 20 and 21 leave the subaccumulation grid filled as on acceptance."
+  -- what either leaves, by its number. The subaccumulation grid is filled once 18 is past: on 0, 19, 20 and 21
   unfoldable pub traceLeavesSub : ℕ → List ℕ
   traceLeavesSub number = cond (member number (0 ∷ 19 ∷ 20 ∷ 21 ∷ [])) (overlaid (subaccumulations grid outlets) sub) sub
 
-  -- the starts; "21 fills every list place with the first longest starts in order"
+  -- the list holds the starts; on 21 as many of the first as it has places
   unfoldable pub traceLeavesStarts : ℕ → List ℕ
   traceLeavesStarts number = cond (member number (0 ∷ 21 ∷ [])) (overlaid (chosenTracing .starts) starts) starts
 
-  -- "Stack tracing, accepted or refused with 21, leaves the first 3 × subaccumulation working numbers 0."
+  -- by stack, on 0 and 21, the working numbers that the search may use are 0 again
   unfoldable pub traceLeavesWork : ℕ → List ℕ → List ℕ
   traceLeavesWork number work =
       cond (member number (0 ∷ 21 ∷ [])) (overlaid (zeros (3 * subaccumulation grid outlets chosen)) work) work

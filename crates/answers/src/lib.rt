@@ -1,7 +1,7 @@
 // The answer of a tracing.
 
-// Which kind of answer it is: found with its length and number of paths, no place with the true number of paths, or
-// another refusal with its number.
+// What became of a tracing. Found: the length of the longest paths and how many there are. NoPlace: the list was too
+// short for them, and how many there are. Refused: the number of another check.
 pub enum Answer {
     Found {
         straight: u32,

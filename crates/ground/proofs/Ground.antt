@@ -256,7 +256,7 @@ module _ (g : Grid) where
             back e = let r = true-belongs squares (next g) (isOutlet g outlets) (places g) o c e in
                 first-meets squares (next g) (isOutlet g outlets) (places g) c (record { cell = o; len = r .0 }) (r .1)
 
-        -- "An outlet's subaccumulation is the number of these cells."
+        -- THE COUNT: an outlet has as many cells as its subaccumulation says
         pub sub-cells : howMany (inSubwatershed g outlets o) (places g) ≡ subaccumulation g outlets o
         unfolding forest inSubwatershed
         sub-cells = count-places squares (next g) (isOutlet g outlets) (inflows g) (ground g) (places g) 𝓝

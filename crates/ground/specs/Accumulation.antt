@@ -8,12 +8,12 @@ use lib.Dec.{eqb}
 use Rattle.ground.specs.Lists.{member, allBelow, upTo, sumOf}
 use Rattle.ground.specs.Grid.{Grid, Link, places, ground, inflows, inflowRecord}
 
--- "Accumulation: 0 at a null cell, else 1 plus the sum over inflowing neighbours." What this asks of the number at a cell,
--- if the list a holds the neighbours' numbers
+-- 01, Accumulation, as an equation: a null cell has 0, and any other counts itself and what its inflows have. What this
+-- asks of the number at a cell, if the list a holds the neighbours' numbers
 unfoldable pub balance : Grid → List ℕ → ℕ → ℕ
 balance g a x = cond (ground g x) (suc (sumOf (inflowRecord g a x))) 0
 
--- check 14's question: "does the lent accumulation equal its definition's equation at each cell?"
+-- check 14's question: does a list fulfil that equation at every cell?
 unfoldable pub agrees : Grid → List ℕ → Bool
 agrees g a = allBelow (λ x. eqb (getD a x 0) (balance g a x)) (places g)
 
@@ -30,15 +30,15 @@ module _ {S : Type 0} (ups : ℕ → List (Link S)) (outlet : ℕ → Bool) wher
   gathered (suc n) x = suc (total (gathered n) (ups x))
 
 module _ (g : Grid) where
-  -- "Subaccumulation: the same sum, but inflowing neighbours that are outlets are left out." As many steps up as there are
-  -- cells are enough where there is no ring
+  -- 01, Subaccumulation, a term of its own: the same count without what comes by way of an outlet. As many steps up as
+  -- there are cells are enough where there is no ring
   unfoldable pub subaccumulation : List ℕ → ℕ → ℕ
   subaccumulation outlets x = cond (ground g x) (gathered (inflows g) (λ c. member c outlets) (places g) x) 0
 
   abbrev pub accumulation : ℕ → ℕ
   accumulation x = subaccumulation [] x
 
-  -- "Headwater: subaccumulation 1."
+  -- 01, Headwater: nothing but outlets flows in, so it counts itself alone
   abbrev pub isHeadwater : List ℕ → ℕ → Bool
   isHeadwater outlets x = eqb (subaccumulation outlets x) 1
 

@@ -12,7 +12,7 @@ use Rattle.lengths.specs.Lengths.{Lengths, squareCells, steppedBy}
 pub data Dir : Type 0 where
   E SE S SW W NW N NE : Dir
 
--- "Neighbours are always taken in the order E, SE, S, SW, W, NW, N, NE."
+-- 01's neighbour order: clockwise from east
 abbrev pub dirs : List Dir
 dirs = E ∷ SE ∷ S ∷ SW ∷ W ∷ NW ∷ N ∷ NE ∷ []
 
@@ -64,7 +64,7 @@ opposite NE = SW
 pub data Shift : Type 0 where
   less as-is more : Shift
 
--- "Rows grow to the south."
+-- row numbers grow to the south, column numbers to the east
 abbrev pub rowShift : Dir → Shift
 rowShift E = as-is
 rowShift SE = more

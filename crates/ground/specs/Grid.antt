@@ -8,8 +8,8 @@ use lib.ListN.{getD}
 use lib.Dec.{eqb, ltb}
 use Rattle.ground.specs.Compass.{Dir, dirs, codeOf, dirOf, opposite, pointsIn, shifted, rowShift, colShift}
 
--- "A grid has R rows and C columns, numbered from 0. Each cell has a code byte." The codes stand row by row in the first
--- R × C places of the list
+-- 01, The ground: so many rows and columns, and a code for each cell. The codes stand row by row in the first R × C
+-- places of the list
 pub record Grid : Type 0 where
   pub rows : ℕ
   pub cols : ℕ
@@ -23,7 +23,7 @@ pub record Link (S : Type 0) : Type 0 where
   pub cell : ℕ
   pub step : S
 
--- "The cell number is row × C + column."
+-- the number of the cell in a row and a column, if both are on the grid
 abbrev pub cellAt : ℕ → Option ℕ → Option ℕ → Option ℕ
 cellAt cols none col = none
 cellAt cols (some row) none = none
@@ -38,7 +38,7 @@ module _ (g : Grid) where
   unfoldable pub codeAt : ℕ → ℕ
   codeAt x = cond (ltb x places) (getD (g .codes) x 0) 0
 
-  -- "Code 0 is a null cell: no ground."
+  -- a null cell, of code 0, has no ground
   abbrev pub ground : ℕ → Bool
   ground x = not (eqb (codeAt x) 0)
 
@@ -61,17 +61,17 @@ module _ (g : Grid) where
   along x none = none
   along x (some d) = onto d (neighbour x d)
 
-  -- where a cell flows: "[a walk] ends at a cell whose code points off the grid or to a null cell"
+  -- where a cell flows: a walk ends where this is none, off the grid or before a null cell
   unfoldable pub next : ℕ → Option (Link Dir)
   next x = along x (flow x)
 
-  -- "A neighbour flows in if its code points at the cell": what lies in a direction points in the opposite one
+  -- a neighbour flows in if its code points back: in the direction opposite to the one in which it lies
   abbrev pub flowsIn : Dir → Option ℕ → Bool
   flowsIn d none = false
   flowsIn d (some y) = pointsIn (opposite d) (codeAt y)
 
-  -- "The inflow record of a cell holds eight accumulations, one for each neighbour in that order, zero where it does not
-  -- flow in."
+  -- 01's inflow record, a term of its own: in neighbour order, the number of each neighbour that flows in, and 0 for the
+  -- others
   abbrev pub inflowValue : List ℕ → Dir → Option ℕ → ℕ
   inflowValue a d none = 0
   inflowValue a d (some y) = cond (flowsIn d (some y)) (getD a y 0) 0

@@ -15,8 +15,8 @@ use Rattle.ground.specs.Grid.{Grid, Link, places, next}
 use Rattle.ground.specs.Walk.{At, after, strides}
 
 module _ {S : Type 0} (step : ℕ → Option (Link S)) (outlet : ℕ → Bool) where
-  -- "the outlet, and each cell whose walk meets it before any other outlet". A walk has its start: the outlet's own meets
-  -- it in no steps, and that of another outlet meets that one first
+  -- 01, Subwatershed: on the walk from c the outlet o comes before all others. The start is part of the walk: the outlet's
+  -- own walk meets it in no steps, and that of another outlet meets that one first
   pub record MeetsFirst (o c : ℕ) : Type 0 where
     pub steps : ℕ
     pub meets : after step steps c ≡ some o
@@ -46,7 +46,7 @@ longer 𝓛 s (some a) = some (record { cell = a .cell; len = 𝓛 ._▹_ (a .le
 module _ {S : Type 0} (𝓛 : Lengths S) (step : ℕ → Option (Link S)) (outlet : ℕ → Bool) where
   open Lengths 𝓛 using (Len, start)
 
-  -- "Length of a cell's walk to its outlet": what the walk's state holds when it comes to its first outlet
+  -- 01, Length: what the walk's state holds when it comes to its first outlet
   pub record Arrives (o : ℕ) (b : At Len) : Type 0 where
     pub steps : ℕ
     pub holds : strides 𝓛 step steps (record { cell = b .cell; len = start }) ≡ some (record { cell = o; len = b .len })
@@ -64,7 +64,7 @@ module _ {S : Type 0} (𝓛 : Lengths S) (step : ℕ → Option (Link S)) (outle
   unfoldable pub belongs : ℕ → ℕ → ℕ → Bool
   belongs n o c = elim (firstOutlet n c) [ none ↦ false | some a ↦ eqb (a .cell) o ]
 
--- a walk "read upward from the outlet": at each cell the neighbour that the upper cell is
+-- a walk read upward, from its outlet: at each cell, which neighbour the next one up is
 unfoldable pub route : (ℕ → Option (Link Dir)) → (ℕ → Bool) → ℕ → ℕ → List Dir
 route step outlet n c = reverse (map opposite (descent step outlet n c))
 
@@ -96,11 +96,11 @@ module _ (g : Grid) (outlets : List ℕ) where
   abbrev pub HasLength : ℕ → ℕ → Length → Type 0
   HasLength o c l = Arrives squares (next g) isOutlet o (record { cell = c; len = l })
 
-  -- "Two of them are ordered where their walks, read upward from the outlet, part: the earlier neighbour comes first."
+  -- 01's order of starts: at the cell where the two walks come together, c comes by the earlier neighbour
   abbrev pub Before : ℕ → ℕ → Type 0
   Before c y = Parts (route (next g) isOutlet (places g) c) (route (next g) isOutlet (places g) y)
 
-  -- "Longest: the length of no cell's walk in the subwatershed is greater." Of the cells that may start, which are all
+  -- 01, Longest: a cell of the subwatershed whose walk no other's exceeds. Of the cells that may start, which are all
   pub record Longest (may : ℕ → Bool) (o c : ℕ) : Type 0 where
     pub inside : InSubwatershed o c
     pub starts : may c ≡ true
@@ -108,6 +108,6 @@ module _ (g : Grid) (outlets : List ℕ) where
     pub has : HasLength o c len
     pub none-longer : (y : ℕ) (l : Length) → InSubwatershed o y → may y ≡ true → HasLength o y l → isShorter len l ≡ false
 
-  -- "from start to outlet": the cells of the path that drawing draws
+  -- the path that drawing draws
   abbrev pub pathFrom : ℕ → List ℕ
   pathFrom c = walked (next g) isOutlet (places g) c

@@ -14,8 +14,8 @@ pub record At (L : Type 0) : Type 0 where
   pub cell : ℕ
   pub len : L
 
--- "The walk is one step repeated on a state of cell, straight steps and diagonal steps." The straight and diagonal steps
--- are the length
+-- 01: a walk repeats one step on its state, the cell it is at and the steps made so far. The straight and diagonal steps
+-- together are the length
 module _ {S : Type 0} (𝓛 : Lengths S) (step : ℕ → Option (Link S)) where
   open Lengths 𝓛 using (Len, _▹_)
 
@@ -38,8 +38,8 @@ module _ {S : Type 0} (step : ℕ → Option (Link S)) where
   ends zero c = elim (step c) [ none ↦ true | some h ↦ false ]
   ends (suc n) c = elim (step c) [ none ↦ true | some h ↦ ends n (h .cell) ]
 
-  -- "A ring is a walk that comes back to a cell": to the cell where it starts. That a walk which comes back to a later
-  -- cell has one too is a law
+  -- 01's ring: a walk that comes back to the cell where it started. A walk that comes back to a later cell has one too:
+  -- that is a law
   pub record Ring (solid : ℕ → Bool) : Type 0 where
     pub cell : ℕ
     pub is-ground : solid cell ≡ true

@@ -9,7 +9,7 @@ use Rattle.lengths.specs.declared.Length.{Length}
 use Rattle.lengths.specs.declared.Order.{Order}
 use Rattle.lengths.specs.declared.Order.the-variants.{Shorter, Same, Longer}
 
--- "Length of a cell's walk": so many straight and so many diagonal steps
+-- 01, Length: so many straight and so many diagonal steps
 abbrev pub counts : ℕ → ℕ → Length
 counts a b = record { straight = a; diagonal = b }
 
@@ -26,12 +26,12 @@ signOf x y = cond (ltb x y) Shorter (cond (ltb y x) Longer Same)
 abbrev pub sizeOf : ℕ → ℕ → ℕ
 sizeOf x y = (x - y) + (y - x)
 
--- the one with the larger of p² and 2q²
+-- of two signs that differ, that of the larger
 abbrev pub larger : Order → ℕ → Order → ℕ → Order
 larger s p t q = cond (ltb (2 * (q * q)) (p * p)) s t
 
--- p has sign s and size p, q has sign t and size q. The sign is that of p where q = 0, of q where p = 0, the common sign
--- where both agree, and else that of the one with the larger of p² and 2q²
+-- the sign of p + q√2, from the signs s of p and t of q and their sizes: where one is 0 the other decides, where they
+-- agree both do, and else the larger of p² and 2q²
 unfoldable pub ruled : Order → ℕ → Order → ℕ → Order
 ruled s p Same q = s
 ruled Same p Shorter q = Shorter
@@ -41,7 +41,7 @@ ruled Longer p Longer q = Longer
 ruled Shorter p Longer q = larger Shorter p Longer q
 ruled Longer p Shorter q = larger Longer p Shorter q
 
--- "To compare with c + d√2, take p = a − c and q = b − d"
+-- 01's comparison of a + b√2 with c + d√2, by p = a − c and q = b − d
 unfoldable pub compared : Length → Length → Order
 compared l m = ruled
     (signOf (l .straight) (m .straight))

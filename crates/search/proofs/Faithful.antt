@@ -59,7 +59,7 @@ module _ (g : Grid) (a : List ℕ) (h : agrees g a ≡ true) (outlets : List ℕ
       (forest g outlets x) (forest-trees (next g) (inflows g) (ground g) (places g) (𝓝 g) (λ y. getD a y 0)
       (lent g a h) (isOutlet g outlets) x v)
 
-  -- "Headwater: subaccumulation 1." At such cells the search meets a length
+  -- the search meets a length at the cells of subaccumulation 1
   pub headwater-is : (x : ℕ) → ground g x ≡ true → headwater x (forest g outlets x) ≡ isHeadwater g outlets x
   headwater-is x v = go (forest g outlets x) (sub-size g a h outlets x v)
     where

@@ -193,7 +193,7 @@ module _ {S : Type 0} (𝓛 : Lengths S) where
   all-exceeded [] l h = refl
   all-exceeded (x ∷ xs) l h = rw (h x (inl refl)) (all-exceeded xs l (λ b i. h b (inr i)))
 
-  -- 01's "longest": listed, and no listed cell's length is greater
+  -- longest is what is listed and no listed cell exceeds
   pub longest-is : (xs : List (At Len)) (a : At Len) → In a (longest 𝓛 xs)
       → In a xs × ((b : At Len) → In b xs → shorter (a .len) (b .len) ≡ false)
   longest-is xs a i = let p = in-only (λ x. not (exceeded 𝓛 xs (x .len))) a xs i in

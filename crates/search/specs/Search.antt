@@ -63,20 +63,20 @@ module _ {S : Type 0} (𝓛 : Lengths S) where
     pub limit : Len → S → ℕ → Len
     pub meets : Which S
 
-  -- "At each headwater it meets a length", and the limit is d + n√2, the step left out of account
+  -- 01's: lengths are met at headwaters, and n cells beyond length d reach d + n√2 at most, the step counted among the n
   abbrev pub firstRule : Bool → Rule
   firstRule dropping = record { dropping = dropping; limit = λ d s n. farthest d n; meets = headwater }
 
-  -- "it drops that neighbour and all n cells exactly if a length has been met and d + n√2 is shorter than the greatest met
-  -- so far"
+  -- 01: a neighbour with its n cells is dropped if even its limit is shorter than the greatest length met; at equal length
+  -- it is not, since it may tie
   abbrev pub drops : Rule → List (At Len) → Len → S → ℕ → Bool
   drops rule gs d s n = rule .dropping && belowGreatest gs (rule .limit d s n)
 
-  -- "dropped is the sum of n over drops"
+  -- all n cells count as dropped
   abbrev pub drop : State → ℕ → State
   drop st n = record { starts = st .starts; visited = st .visited; dropped = st .dropped + n }
 
-  -- "Visited is the number of cells visited"
+  -- a cell is visited, and meets its length if it is one of those that do
   abbrev pub visit : Rule → State → ℕ → Len → Forest S → State
   visit rule st c l above = record {
     starts = meetIf (rule .meets c above) (st .starts) (record { cell = c; len = l });
@@ -84,8 +84,8 @@ module _ {S : Type 0} (𝓛 : Lengths S) where
     dropped = st .dropped;
   }
 
-  -- "takes [the inflows] in neighbour order, outlets left out, and finishes all that it visits above one before it turns to
-  -- the next": from a cell at length d. A neighbour's n is the number of its cell and all above it
+  -- 01: from a cell at length d, neighbour after neighbour, all above one before the next. The n of a neighbour counts its
+  -- cell and all above it
   abbrev pub search : Rule → Len → State → Forest S → State
   search rule d st bare = st
   search rule d st (tree c s above rest) = search rule d (elim (drops rule (st .starts) d s (suc (size above))) [
@@ -93,6 +93,6 @@ module _ {S : Type 0} (𝓛 : Lengths S) where
     | false ↦ search rule (d ▹ s) (visit rule st c (d ▹ s) above) above
   ]) rest
 
-  -- "A search starts at the outlet and visits a cell before its inflows."
+  -- 01: it starts at the outlet, and a cell is visited before its inflows
   abbrev pub searchFrom : Rule → ℕ → Forest S → State
   searchFrom rule o above = search rule start (visit rule fresh o start above) above

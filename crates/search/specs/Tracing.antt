@@ -13,7 +13,7 @@ use Rattle.ground.specs.Forest.{forest}
 use Rattle.search.specs.Search.{State, Rule, firstRule, searchFrom}
 use Rattle.search.specs.Pending.{drainFrom}
 
--- "the number of paths counts them, and the length told is theirs"
+-- the length of the longest walks, how many there are, their starts, and what the search counted
 pub record Tracing : Type 0 where
   pub len : Length
   pub paths : ℕ
