@@ -9,3 +9,5 @@ pub mod Subwatersheds
 pub mod Cells
 pub mod GridNetwork
 pub mod Ground
+pub mod Moves
+pub mod InflowRecord
