@@ -10,7 +10,7 @@ use lib.ListN.{length, getD, take, drop, length-append, length-take, length-drop
 use lib.Dec.{eqb, ltb}
 use borrow.Author.Tests.{eq-eqb, ltb-true}
 use Rattle.ground.specs.Lists.{Every, member}
-use Rattle.ground.specs.Grid.{Grid, places, ground}
+use Rattle.ground.specs.Grid.{Grid, gridOf, places, ground}
 use Rattle.ground.specs.Accumulation.{agrees}
 use Rattle.search.specs.Tracing.{Tracing, tracing}
 use Rattle.search.specs.Demand.{anyCell, Demand3}
@@ -31,7 +31,7 @@ use Rattle.answers.specs.Checks.{
   check20,
   check21,
 }
-use Rattle.answers.specs.Entries.{overlaid, callGrid}
+use Rattle.answers.specs.Entries.{overlaid}
 use Rattle.answers.specs.Tracings.{chosen, chosenTracing, chooseChecks, recursionNumber, stackNumber}
 
 -- what is left of a lent list is as long as it was
@@ -68,7 +68,7 @@ member-at (x ∷ xs) (suc i) l = rw (member-at xs i (omega arith)) (or-true (eqb
 
 module _ (dropping : Bool) (rows cols : ℕ) (codes accumulation outlets : List ℕ) (place : ℕ) (sub starts : List ℕ) where
   abbrev grid : Grid
-  grid = callGrid rows cols codes accumulation
+  grid = gridOf rows cols codes
 
   abbrev chosenOne : ℕ
   chosenOne = chosen dropping rows cols codes accumulation outlets place sub starts

@@ -5,14 +5,14 @@ use mathlib.Core.List.{List, [], _∷_, _++_}
 use Prim.Native.Nat.{ℕ}
 use lib.ListN.{length, getD}
 use lib.Dec.{eqb}
-use Rattle.ground.specs.Grid.{Grid}
+use Rattle.ground.specs.Grid.{Grid, gridOf}
 use Rattle.ground.specs.Subwatershed.{pathFrom}
 use Rattle.answers.specs.Checks.{firstFailed, check18, check22, check23}
-use Rattle.answers.specs.Entries.{overlaid, callGrid, outletChecks}
+use Rattle.answers.specs.Entries.{overlaid, outletChecks}
 
 module _ (rows cols : ℕ) (codes accumulation outlets : List ℕ) (place start : ℕ) (places : List ℕ) where
   abbrev grid : Grid
-  grid = callGrid rows cols codes accumulation
+  grid = gridOf rows cols codes
 
   -- the cells of the walk, the start first and the outlet last
   abbrev pub path : List ℕ

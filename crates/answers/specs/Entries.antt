@@ -2,10 +2,10 @@
 -- Assumes nothing.
 use mathlib.Core.Bool.{Bool, cond}
 use mathlib.Core.List.{List, [], _∷_, _++_}
-use Prim.Native.Nat.{ℕ}
+use Prim.Native.Nat.{ℕ, _*_}
 use lib.ListN.{length, take, drop, replicate}
 use lib.Dec.{eqb}
-use Rattle.ground.specs.Grid.{Grid, gridOf, places}
+use Rattle.ground.specs.Grid.{gridOf}
 use Rattle.ground.specs.Accumulation.{accumulations, subaccumulations}
 use Rattle.answers.specs.Checks.{
   Check,
@@ -28,44 +28,43 @@ overlaid new old = take (length old) new ++ drop (length new) old
 abbrev pub zeros : ℕ → List ℕ
 zeros n = replicate {A = ℕ} n 0
 
+-- with which every entry begins: 10, 11 of its lent grids, by their lengths, and 12
+abbrev pub gridChecks : ℕ → ℕ → List ℕ → List ℕ → List Check
+gridChecks rows cols codes lent = check10 rows cols ∷ check11 rows cols lent ∷ check12 (gridOf rows cols codes) ∷ []
+
+-- and every entry with outlets: 14, 15, 16, 17
+abbrev pub outletChecks : ℕ → ℕ → List ℕ → List ℕ → List ℕ → List ℕ → List Check
+outletChecks rows cols codes accumulation lent outlets =
+    gridChecks rows cols codes lent
+    ++ (check14 (gridOf rows cols codes) accumulation ∷ check15 outlets
+    ∷ check16 (gridOf rows cols codes) outlets ∷ check17 outlets ∷ [])
+
 module _ (rows cols : ℕ) (codes accumulation : List ℕ) where
-  -- the grid of the call
-  abbrev pub callGrid : Grid
-  callGrid = gridOf rows cols codes
-
-  -- with which every entry begins: 10, 11 of its lent grids, by their lengths, and 12
-  abbrev pub gridChecks : List ℕ → List Check
-  gridChecks lent = check10 rows cols ∷ check11 rows cols lent ∷ check12 callGrid ∷ []
-
-  -- and every entry with outlets: 14, 15, 16, 17
-  abbrev pub outletChecks : List ℕ → List ℕ → List Check
-  outletChecks lent outlets =
-      gridChecks lent
-      ++ (check14 callGrid accumulation ∷ check15 outlets ∷ check16 callGrid outlets ∷ check17 outlets ∷ [])
-
   -- ACCUMULATE: 10, 11, 12, 13
   unfoldable pub accumulateNumber : ℕ
-  accumulateNumber = firstFailed (gridChecks (length codes ∷ length accumulation ∷ []) ++ (check13 callGrid ∷ []))
+  accumulateNumber = firstFailed
+      (gridChecks rows cols codes (length codes ∷ length accumulation ∷ []) ++ (check13 (gridOf rows cols codes) ∷ []))
 
   -- on 0 the accumulation, on 13 a 0 for each cell; on the other refusals nothing changes
   unfoldable pub accumulateLeaves : List ℕ
   accumulateLeaves =
-      cond (eqb accumulateNumber 0) (overlaid (accumulations callGrid) accumulation)
-      (cond (eqb accumulateNumber 13) (overlaid (zeros (places callGrid)) accumulation)
+      cond (eqb accumulateNumber 0) (overlaid (accumulations (gridOf rows cols codes)) accumulation)
+      (cond (eqb accumulateNumber 13) (overlaid (zeros (rows * cols)) accumulation)
       accumulation)
 
   -- CHECK AN ACCUMULATION: 10, 11, 12, 14
   unfoldable pub checkNumber : ℕ
-  checkNumber =
-      firstFailed (gridChecks (length codes ∷ length accumulation ∷ []) ++ (check14 callGrid accumulation ∷ []))
+  checkNumber = firstFailed
+      (gridChecks rows cols codes (length codes ∷ length accumulation ∷ [])
+      ++ (check14 (gridOf rows cols codes) accumulation ∷ []))
 
   module _ (outlets subaccumulation : List ℕ) where
     -- SUBACCUMULATE: 10, 11 of three grids, 12, 14, 15, 16, 17
     unfoldable pub subaccumulateNumber : ℕ
-    subaccumulateNumber =
-        firstFailed (outletChecks (length codes ∷ length accumulation ∷ length subaccumulation ∷ []) outlets)
+    subaccumulateNumber = firstFailed (outletChecks rows cols codes accumulation
+        (length codes ∷ length accumulation ∷ length subaccumulation ∷ []) outlets)
 
     -- on 0 the subaccumulation; on refusal nothing changes
     unfoldable pub subaccumulateLeaves : List ℕ
-    subaccumulateLeaves =
-        cond (eqb subaccumulateNumber 0) (overlaid (subaccumulations callGrid outlets) subaccumulation) subaccumulation
+    subaccumulateLeaves = cond (eqb subaccumulateNumber 0)
+        (overlaid (subaccumulations (gridOf rows cols codes) outlets) subaccumulation) subaccumulation

@@ -6,14 +6,14 @@ use Prim.Native.Nat.{ℕ, _*_}
 use lib.ListN.{length, getD}
 use lib.Dec.{eqb}
 use Rattle.ground.specs.Lists.{member}
-use Rattle.ground.specs.Grid.{Grid}
+use Rattle.ground.specs.Grid.{Grid, gridOf}
 use Rattle.ground.specs.Accumulation.{subaccumulation, subaccumulations}
 use Rattle.search.specs.Tracing.{Tracing, tracing}
 use Rattle.answers.specs.declared.Answer.{Answer}
 use Rattle.answers.specs.declared.Answer.the-variants.{Found, NoPlace, Refused}
 use Rattle.answers.specs.declared.Traced.{Traced}
 use Rattle.answers.specs.Checks.{Check, firstFailed, check18, check19, check20, check21}
-use Rattle.answers.specs.Entries.{overlaid, zeros, callGrid, outletChecks}
+use Rattle.answers.specs.Entries.{overlaid, zeros, outletChecks}
 
 -- the number of each kind of answer
 abbrev pub numberOf : Answer → ℕ
@@ -34,7 +34,7 @@ tracedBy number t =
 
 module _ (dropping : Bool) (rows cols : ℕ) (codes accumulation outlets : List ℕ) (place : ℕ) (sub starts : List ℕ) where
   abbrev grid : Grid
-  grid = callGrid rows cols codes accumulation
+  grid = gridOf rows cols codes
 
   -- the outlet chosen
   abbrev pub chosen : ℕ

@@ -1,8 +1,9 @@
 // The ground: the step of each code, the walk, and the inflow record.
 use lengths::Length;
 use lengths::Step;
+use lengths::wide;
 ghost use mathlib.Core.Path.{_≡_};
-ghost use Prim.Native.Nat.{_*_, _+_, _<_, _^_};
+ghost use Prim.Native.Nat.{_*_, _+_, _≤_, _<_, _^_};
 ghost use Rattle.ground.specs.Lists.{sumOf};
 ghost use Rattle.ground.specs.Grid.{gridOf, inflowRecord};
 ghost use Rattle.ground.specs.Moves.{byMove, leadOf, InReach, Spotted, OnGrid, WalkedOn};
@@ -47,14 +48,14 @@ pub fn lead_of(code: u8) -> Lead
 }
 
 // A place on the grid, or none.
-enum Spot {
+pub enum Spot {
     Off,
     On { row: usize, col: usize },
 }
 
 // The place that a change of row and of column, each plus one, leads to. Row and column are tested apart, so that no
 // step wraps around a border.
-fn spot_at(rows: usize, cols: usize, row: usize, col: usize, down: usize, right: usize) -> Spot
+pub fn spot_at(rows: usize, cols: usize, row: usize, col: usize, down: usize, right: usize) -> Spot
     requires { ⌜ InReach rows cols row col down right ⌝ }
     ensures { λ r. ⌜ Spotted rows cols row col down right r ⌝ }
 {
@@ -73,6 +74,38 @@ fn spot_at(rows: usize, cols: usize, row: usize, col: usize, down: usize, right:
         return Spot::Off;
     }
     Spot::On { row: r, col: c }
+}
+
+// A place of the grid, and the next one, row by row.
+pub struct Place {
+    pub row: usize,
+    pub col: usize,
+}
+
+impl Place {
+    pub fn next(self, cols: usize) -> Place
+        requires { ⌜ (self .row ≤ 4096) × (self .col < cols) × (cols ≤ 4096) ⌝ }
+        ensures { λ r. ⌜ (r .row * cols + r .col ≡ self .row * cols + self .col + 1) × (r .col < cols) ⌝ }
+    {
+        let right = self.col + 1;
+        if right < cols {
+            return Place {
+                row: self.row,
+                col: right,
+            };
+        }
+        Place {
+            row: self.row + 1,
+            col: 0,
+        }
+    }
+}
+
+// A cell number as an index.
+pub fn index_of(x: u32) -> usize
+    ensures { λ r. ⌜ (r ≡ x) × (r < 2 ^ 32) ⌝ }
+{
+    x as usize
 }
 
 // A walk: where it is, and the steps that it took.
@@ -199,12 +232,6 @@ pub fn inflows_of(
         k += 1;
     }
     Inflows { values }
-}
-
-fn wide(x: u32) -> u64
-    ensures { λ r. ⌜ (r ≡ x) × (r < 2 ^ 32) ⌝ }
-{
-    x as u64
 }
 
 impl Inflows {

@@ -23,7 +23,8 @@ pub enum Order {
     Longer,
 }
 
-fn wide(x: u32) -> u64
+// A count as a number of 64 bits, and that it is one of 32.
+pub fn wide(x: u32) -> u64
     ensures { λ r. ⌜ (r ≡ x) × (r < 2 ^ 32) ⌝ }
 {
     x as u64
