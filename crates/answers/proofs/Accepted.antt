@@ -18,7 +18,7 @@ use Rattle.search.proofs.Demand3.{demand3}
 use Rattle.answers.specs.Checks.{
   Check,
   firstFailed,
-  all,
+  allPass,
   check10,
   check11,
   check12,
@@ -56,10 +56,10 @@ and-both true b h = (refl, h)
 and-both false b h = absurd (true≢false (sym h))
 
 -- an element of a list of which all pass
-all-at : (f : ℕ → Bool) (xs : List ℕ) → all f xs ≡ true → (i : ℕ) → i < length xs → f (getD xs i 0) ≡ true
+all-at : (f : ℕ → Bool) (xs : List ℕ) → allPass f xs ≡ true → (i : ℕ) → i < length xs → f (getD xs i 0) ≡ true
 all-at f [] h i l = absurd (omega arith)
-all-at f (x ∷ xs) h zero l = and-both (f x) (all f xs) h .0
-all-at f (x ∷ xs) h (suc i) l = all-at f xs (and-both (f x) (all f xs) h .1) i (omega arith)
+all-at f (x ∷ xs) h zero l = and-both (f x) (allPass f xs) h .0
+all-at f (x ∷ xs) h (suc i) l = all-at f xs (and-both (f x) (allPass f xs) h .1) i (omega arith)
 
 member-at : (xs : List ℕ) (i : ℕ) → i < length xs → member (getD xs i 0) xs ≡ true
 member-at [] i l = absurd (omega arith)

@@ -28,9 +28,9 @@ firstFailed [] = 0
 firstFailed (c ∷ cs) = cond (c .passes) (firstFailed cs) (c .number)
 
 -- do all pass?
-abbrev pub all : {A : Type 0} → (A → Bool) → List A → Bool
-all f [] = true
-all f (x ∷ xs) = f x && all f xs
+abbrev pub allPass : {A : Type 0} → (A → Bool) → List A → Bool
+allPass f [] = true
+allPass f (x ∷ xs) = f x && allPass f xs
 
 -- 10: rows and columns are from 1 to 4,096 each. It is judged before any product of the two is taken
 abbrev pub isSide : ℕ → Bool
@@ -41,7 +41,7 @@ check10 rows cols = check 10 (isSide rows && isSide cols)
 
 -- 11: every lent grid has a place for each cell, or more. The lengths of the lent grids are given
 unfoldable pub check11 : ℕ → ℕ → List ℕ → Check
-check11 rows cols lent = check 11 (all (λ n. leb (rows * cols) n) lent)
+check11 rows cols lent = check 11 (allPass (λ n. leb (rows * cols) n) lent)
 
 -- 12: each of the first R × C codes is 0 or one of the eight directions'
 abbrev pub isDir : Option Dir → Bool
@@ -68,7 +68,7 @@ check15 outlets = check 15 (leb 1 (length outlets) && leb (length outlets) 256)
 
 -- 16: every outlet of the list is the number of a cell with ground
 unfoldable pub check16 : Grid → List ℕ → Check
-check16 g outlets = check 16 (all (λ o. ltb o (places g) && ground g o) outlets)
+check16 g outlets = check 16 (allPass (λ o. ltb o (places g) && ground g o) outlets)
 
 -- 17: no outlet stands in the list twice
 abbrev pub different : List ℕ → Bool

@@ -21,9 +21,9 @@ use Rattle.search.specs.Search.{
   Rule,
   firstRule,
   drops,
-  drop,
+  dropCells,
   visit,
-  search,
+  searchAbove,
   searchFrom,
 }
 use Rattle.search.proofs.Meeting.{AtMost, meets, meets-append, meets-keep, irrefl, le-lt, meets-longest, meets-vain}
@@ -43,14 +43,14 @@ module _ {S : Type 0} (𝓛 : Lengths S) where
     -- the search at a tree, by cases
     pub search-dropped : (d : Len) (st : State 𝓛) (c : ℕ) (s : S) (above rest : Forest S)
         → drops 𝓛 rule (st .starts) d s (suc (size above)) ≡ true
-        → search 𝓛 rule d st (tree c s above rest) ≡ search 𝓛 rule d (drop 𝓛 st (suc (size above))) rest
-    search-dropped d st c s above rest e = rw (e, search)
+        → searchAbove 𝓛 rule d st (tree c s above rest) ≡ searchAbove 𝓛 rule d (dropCells 𝓛 st (suc (size above))) rest
+    search-dropped d st c s above rest e = rw (e, searchAbove)
 
     pub search-entered : (d : Len) (st : State 𝓛) (c : ℕ) (s : S) (above rest : Forest S)
         → drops 𝓛 rule (st .starts) d s (suc (size above)) ≡ false
-        → search 𝓛 rule d st (tree c s above rest) ≡ search 𝓛 rule d
-        (search 𝓛 rule (d ▹ s) (visit 𝓛 rule st c (d ▹ s) above) above) rest
-    search-entered d st c s above rest e = rw (e, search)
+        → searchAbove 𝓛 rule d st (tree c s above rest) ≡ searchAbove 𝓛 rule d
+        (searchAbove 𝓛 rule (d ▹ s) (visit 𝓛 rule st c (d ▹ s) above) above) rest
+    search-entered d st c s above rest e = rw (e, searchAbove)
 
 module _ {S : Type 0} (𝓛 : Lengths S) (laws : LengthLaws 𝓛) where
   open Lengths 𝓛 using (Len, start, _▹_, top, shorter)
@@ -120,7 +120,7 @@ module _ {S : Type 0} (𝓛 : Lengths S) (laws : LengthLaws 𝓛) where
         (valley 𝓛 (rule .meets) d c s above) (valley-within (rule .meets) d c s above (within (rule .meets) (d ▹ s) above)))
 
     -- the search has met the lengths of all the cells that count, whatever it dropped
-    pub search-meets : (d : Len) (st : State 𝓛) (f : Forest S) → (search 𝓛 rule d st f) .starts ≡ meets 𝓛 (st .starts)
+    pub search-meets : (d : Len) (st : State 𝓛) (f : Forest S) → (searchAbove 𝓛 rule d st f) .starts ≡ meets 𝓛 (st .starts)
         (cellsAbove 𝓛 (rule .meets) d f)
     unfolding meets
     search-meets d st bare = refl
@@ -132,19 +132,19 @@ module _ {S : Type 0} (𝓛 : Lengths S) (laws : LengthLaws 𝓛) where
         ∙ meets-append 𝓛 (st .starts) (valley 𝓛 (rule .meets) d c s above) (cellsAbove 𝓛 (rule .meets) d rest))
       where
         go : (b : Bool) → drops 𝓛 rule (st .starts) d s (suc (size above)) ≡ b
-            → ((st′ : State 𝓛) → (search 𝓛 rule d st′ rest) .starts ≡ meets 𝓛 (st′ .starts)
+            → ((st′ : State 𝓛) → (searchAbove 𝓛 rule d st′ rest) .starts ≡ meets 𝓛 (st′ .starts)
             (cellsAbove 𝓛 (rule .meets) d rest))
-            → (search 𝓛 rule (d ▹ s) (visit 𝓛 rule st c (d ▹ s) above) above) .starts
+            → (searchAbove 𝓛 rule (d ▹ s) (visit 𝓛 rule st c (d ▹ s) above) above) .starts
             ≡ meets 𝓛 (meetIf 𝓛 (rule .meets c above) (st .starts) (record { cell = c; len = d ▹ s }))
             (cellsAbove 𝓛 (rule .meets) (d ▹ s) above)
-            → (search 𝓛 rule d st (tree c s above rest)) .starts
+            → (searchAbove 𝓛 rule d st (tree c s above rest)) .starts
             ≡ meets 𝓛 (meets 𝓛 (st .starts) (valley 𝓛 (rule .meets) d c s above)) (cellsAbove 𝓛 (rule .meets) d rest)
-        go true e ihr iha = rw (search-dropped 𝓛 rule d st c s above rest e) (ihr (drop 𝓛 st (suc (size above)))
+        go true e ihr iha = rw (search-dropped 𝓛 rule d st c s above rest e) (ihr (dropCells 𝓛 st (suc (size above)))
             ∙ ap (λ gs. meets 𝓛 gs (cellsAbove 𝓛 (rule .meets) d rest))
             (sym (drop-vain (st .starts) d c s above
             (and-right (rule .dropping) (belowGreatest 𝓛 (st .starts) (rule .limit d s (suc (size above)))) e))))
         go false e ihr iha = rw (search-entered 𝓛 rule d st c s above rest e)
-            (ihr (search 𝓛 rule (d ▹ s) (visit 𝓛 rule st c (d ▹ s) above) above)
+            (ihr (searchAbove 𝓛 rule (d ▹ s) (visit 𝓛 rule st c (d ▹ s) above) above)
             ∙ ap (λ gs. meets 𝓛 gs (cellsAbove 𝓛 (rule .meets) d rest)) (iha
             ∙ meets-keep 𝓛 (rule .meets c above) (st .starts) (record { cell = c; len = d ▹ s })
             (cellsAbove 𝓛 (rule .meets) (d ▹ s) above)))
@@ -163,24 +163,24 @@ module _ {S : Type 0} (𝓛 : Lengths S) (rule : Rule 𝓛) where
 
   -- every cell is visited or dropped
   pub search-counts : (d : Len) (st : State 𝓛) (f : Forest S)
-      → (search 𝓛 rule d st f) .visited + (search 𝓛 rule d st f) .dropped ≡ st .visited + st .dropped + size f
+      → (searchAbove 𝓛 rule d st f) .visited + (searchAbove 𝓛 rule d st f) .dropped ≡ st .visited + st .dropped + size f
   search-counts d st bare = omega arith
   search-counts d st (tree c s above rest) =
       go (drops 𝓛 rule (st .starts) d s (suc (size above))) refl (λ st′. search-counts d st′ rest)
       (search-counts (d ▹ s) (visit 𝓛 rule st c (d ▹ s) above) above)
     where
       go : (b : Bool) → drops 𝓛 rule (st .starts) d s (suc (size above)) ≡ b
-          → ((st′ : State 𝓛) → (search 𝓛 rule d st′ rest) .visited + (search 𝓛 rule d st′ rest) .dropped
+          → ((st′ : State 𝓛) → (searchAbove 𝓛 rule d st′ rest) .visited + (searchAbove 𝓛 rule d st′ rest) .dropped
           ≡ st′ .visited + st′ .dropped + size rest)
-          → (search 𝓛 rule (d ▹ s) (visit 𝓛 rule st c (d ▹ s) above) above) .visited +
-          (search 𝓛 rule (d ▹ s) (visit 𝓛 rule st c (d ▹ s) above) above) .dropped
+          → (searchAbove 𝓛 rule (d ▹ s) (visit 𝓛 rule st c (d ▹ s) above) above) .visited +
+          (searchAbove 𝓛 rule (d ▹ s) (visit 𝓛 rule st c (d ▹ s) above) above) .dropped
           ≡ st .visited + 1 + st .dropped + size above
-          → (search 𝓛 rule d st (tree c s above rest)) .visited + (search 𝓛 rule d st (tree c s above rest)) .dropped
+          → (searchAbove 𝓛 rule d st (tree c s above rest)) .visited + (searchAbove 𝓛 rule d st (tree c s above rest)) .dropped
           ≡ st .visited + st .dropped + size (tree c s above rest)
       go true e ihr iha = rw (search-dropped 𝓛 rule d st c s above rest e)
-          (omega (arith, ihr (drop 𝓛 st (suc (size above)))))
+          (omega (arith, ihr (dropCells 𝓛 st (suc (size above)))))
       go false e ihr iha = rw (search-entered 𝓛 rule d st c s above rest e)
-          (omega (arith, iha, ihr (search 𝓛 rule (d ▹ s) (visit 𝓛 rule st c (d ▹ s) above) above)))
+          (omega (arith, iha, ihr (searchAbove 𝓛 rule (d ▹ s) (visit 𝓛 rule st c (d ▹ s) above) above)))
 
   pub search-all : (o : ℕ) (above : Forest S)
       → (searchFrom 𝓛 rule o above) .visited + (searchFrom 𝓛 rule o above) .dropped ≡ suc (size above)
@@ -191,11 +191,11 @@ module _ {S : Type 0} (𝓛 : Lengths S) (rule : Rule 𝓛) where
     none-drops : (gs : List (At Len)) (d : Len) (s : S) (n : ℕ) → drops 𝓛 rule gs d s n ≡ false
     none-drops gs d s n = rw off
 
-    search-whole : (d : Len) (st : State 𝓛) (f : Forest S) → (search 𝓛 rule d st f) .dropped ≡ st .dropped
+    search-whole : (d : Len) (st : State 𝓛) (f : Forest S) → (searchAbove 𝓛 rule d st f) .dropped ≡ st .dropped
     search-whole d st bare = refl
     search-whole d st (tree c s above rest) =
         rw (search-entered 𝓛 rule d st c s above rest (none-drops (st .starts) d s (suc (size above))))
-        (search-whole d (search 𝓛 rule (d ▹ s) (visit 𝓛 rule st c (d ▹ s) above) above) rest
+        (search-whole d (searchAbove 𝓛 rule (d ▹ s) (visit 𝓛 rule st c (d ▹ s) above) above) rest
         ∙ search-whole (d ▹ s) (visit 𝓛 rule st c (d ▹ s) above) above)
 
     pub none-dropped : (o : ℕ) (above : Forest S) → (searchFrom 𝓛 rule o above) .dropped ≡ 0

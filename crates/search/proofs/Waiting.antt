@@ -8,7 +8,7 @@ use native.Mathlib.Omega.{arith}
 use lib.ListN.{length}
 use Rattle.lengths.specs.Lengths.{Lengths}
 use Rattle.ground.specs.Forest.{Forest, bare, tree, size}
-use Rattle.search.specs.Search.{State, fresh, Rule, drops, drop, visit, search, searchFrom}
+use Rattle.search.specs.Search.{State, fresh, Rule, drops, dropCells, visit, searchAbove, searchFrom}
 use Rattle.search.specs.Pending.{Pending, push, waiting, drain, drainFrom}
 use Rattle.search.proofs.Dropping.{search-dropped, search-entered}
 
@@ -28,12 +28,12 @@ module _ {S : Type 0} (𝓛 : Lengths S) where
     -- the pending cells searched one after the other
     abbrev pub searchEach : State 𝓛 → List (Pending 𝓛) → State 𝓛
     searchEach st [] = st
-    searchEach st (p ∷ ps) = searchEach (search 𝓛 rule (p .from) st (tree (p .cell) (p .step) (p .above) bare)) ps
+    searchEach st (p ∷ ps) = searchEach (searchAbove 𝓛 rule (p .from) st (tree (p .cell) (p .step) (p .above) bare)) ps
 
     search-push : (d : Len) (f : Forest S) (st : State 𝓛) (ps : List (Pending 𝓛))
-        → searchEach st (push 𝓛 d f ps) ≡ searchEach (search 𝓛 rule d st f) ps
+        → searchEach st (push 𝓛 d f ps) ≡ searchEach (searchAbove 𝓛 rule d st f) ps
     search-push d bare st ps = refl
-    search-push d (tree c s above rest) st ps = search-push d rest (search 𝓛 rule d st (tree c s above bare)) ps
+    search-push d (tree c s above rest) st ps = search-push d rest (searchAbove 𝓛 rule d st (tree c s above bare)) ps
 
     pub drain-search : (n : ℕ) (st : State 𝓛) (ps : List (Pending 𝓛)) → waiting 𝓛 ps ≤ n
         → drain 𝓛 rule n st ps ≡ searchEach st ps
@@ -52,7 +52,7 @@ module _ {S : Type 0} (𝓛 : Lengths S) where
             → ((st′ : State 𝓛) (ps′ : List (Pending 𝓛)) → waiting 𝓛 ps′ ≤ n → drain 𝓛 rule n st′ ps′ ≡ searchEach st′ ps′)
             → drain 𝓛 rule (suc n) st (p ∷ ps) ≡ searchEach st (p ∷ ps)
         go true e ih = rw (search-dropped 𝓛 rule (p .from) st (p .cell) (p .step) (p .above) bare e, e, drain)
-            (ih (drop 𝓛 st cells) ps (omega arith))
+            (ih (dropCells 𝓛 st cells) ps (omega arith))
         go false e ih = rw (search-entered 𝓛 rule (p .from) st (p .cell) (p .step) (p .above) bare e, e, drain)
             (ih (visit 𝓛 rule st (p .cell) own (p .above)) (push 𝓛 own (p .above) ps)
             (omega (arith, waiting-push own (p .above) ps))

@@ -5,7 +5,7 @@ use mathlib.Core.List.{List, [], _∷_}
 use Prim.Native.Nat.{ℕ, zero, suc, _+_}
 use Rattle.lengths.specs.Lengths.{Lengths}
 use Rattle.ground.specs.Forest.{Forest, bare, tree, size}
-use Rattle.search.specs.Search.{State, Rule, fresh, drops, drop, visit}
+use Rattle.search.specs.Search.{State, Rule, fresh, drops, dropCells, visit}
 
 module _ {S : Type 0} (𝓛 : Lengths S) where
   open Lengths 𝓛 using (Len, start, _▹_)
@@ -32,7 +32,7 @@ module _ {S : Type 0} (𝓛 : Lengths S) where
   drain rule zero st ps = st
   drain rule (suc n) st [] = st
   drain rule (suc n) st (p ∷ ps) = elim (drops 𝓛 rule (st .starts) (p .from) (p .step) (suc (size (p .above)))) [
-    | true ↦ drain rule n (drop 𝓛 st (suc (size (p .above)))) ps
+    | true ↦ drain rule n (dropCells 𝓛 st (suc (size (p .above)))) ps
     | false ↦ drain rule n (visit 𝓛 rule st (p .cell) (p .from ▹ p .step) (p .above))
         (push (p .from ▹ p .step) (p .above) ps)
   ]

@@ -73,8 +73,8 @@ module _ {S : Type 0} (𝓛 : Lengths S) where
   drops rule gs d s n = rule .dropping && belowGreatest gs (rule .limit d s n)
 
   -- all n cells count as dropped
-  abbrev pub drop : State → ℕ → State
-  drop st n = record { starts = st .starts; visited = st .visited; dropped = st .dropped + n }
+  abbrev pub dropCells : State → ℕ → State
+  dropCells st n = record { starts = st .starts; visited = st .visited; dropped = st .dropped + n }
 
   -- a cell is visited, and meets its length if it is one of those that do
   abbrev pub visit : Rule → State → ℕ → Len → Forest S → State
@@ -86,13 +86,13 @@ module _ {S : Type 0} (𝓛 : Lengths S) where
 
   -- 01: from a cell at length d, neighbour after neighbour, all above one before the next. The n of a neighbour counts its
   -- cell and all above it
-  abbrev pub search : Rule → Len → State → Forest S → State
-  search rule d st bare = st
-  search rule d st (tree c s above rest) = search rule d (elim (drops rule (st .starts) d s (suc (size above))) [
-    | true ↦ drop st (suc (size above))
-    | false ↦ search rule (d ▹ s) (visit rule st c (d ▹ s) above) above
+  abbrev pub searchAbove : Rule → Len → State → Forest S → State
+  searchAbove rule d st bare = st
+  searchAbove rule d st (tree c s above rest) = searchAbove rule d (elim (drops rule (st .starts) d s (suc (size above))) [
+    | true ↦ dropCells st (suc (size above))
+    | false ↦ searchAbove rule (d ▹ s) (visit rule st c (d ▹ s) above) above
   ]) rest
 
   -- 01: it starts at the outlet, and a cell is visited before its inflows
   abbrev pub searchFrom : Rule → ℕ → Forest S → State
-  searchFrom rule o above = search rule start (visit rule fresh o start above) above
+  searchFrom rule o above = searchAbove rule start (visit rule fresh o start above) above
