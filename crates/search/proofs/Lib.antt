@@ -5,3 +5,4 @@ pub mod Waiting
 pub mod Ordered
 pub mod Demand3
 pub mod Faithful
+pub mod Neighbours

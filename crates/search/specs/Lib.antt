@@ -1,4 +1,5 @@
 pub mod Search
 pub mod Pending
+pub mod Neighbours
 pub mod Tracing
 pub mod Demand
