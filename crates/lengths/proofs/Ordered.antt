@@ -155,14 +155,13 @@ module _ (l m : Length) where
       by-less false false = refl
 
 -- the other way round
-pub opposite : Order → Order
+abbrev pub opposite : Order → Order
 opposite Shorter = Longer
 opposite Same = Same
 opposite Longer = Shorter
 
 -- TOTAL: of two lengths one is shorter, or both have the same counts
 pub compared-back : (l m : Length) → compared m l ≡ opposite (compared l m)
-unfolding opposite
 compared-back l m = compared-is m l ∙ turn (less l m) refl (more l m) refl ∙ sym (ap opposite (compared-is l m))
   where
     turn : (b : Bool) → less l m ≡ b → (c : Bool) → more l m ≡ c

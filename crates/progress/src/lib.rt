@@ -1,0 +1,139 @@
+// How far a search has come: the starts it has met, and what it has visited and dropped. Both engines use it.
+use ground::index_of;
+use lengths::Length;
+use lengths::Order;
+ghost use mathlib.Core.Path.{_≡_};
+ghost use mathlib.Core.List.{List, map};
+ghost use Prim.Native.Nat.{ℕ, _+_, _-_, _≤_, _<_, _^_};
+ghost use lib.ListN.{length, set};
+ghost use Rattle.ground.specs.Compass.{Dir, squares};
+ghost use Rattle.search.specs.Search.{firstRule, drops};
+ghost use Rattle.progress.specs.Starts.{begun, startAt, Room, Met, Visited};
+
+// The greatest length met and how many starts have it, the cells visited and the cells dropped. The starts themselves
+// stand in a slice, before an end: the first next to it, the others further down.
+pub struct Progress {
+    pub greatest: Length,
+    pub paths: u32,
+    pub visited: u32,
+    pub dropped: u32,
+}
+
+// Nothing is visited yet.
+pub fn begin() -> Progress
+    ensures { λ r. ⌜ r ≡ begun ⌝ }
+{
+    Progress {
+        greatest: Length {
+            straight: 0,
+            diagonal: 0,
+        },
+        paths: 0,
+        visited: 0,
+        dropped: 0,
+    }
+}
+
+// The first start of a greater length.
+fn restart(work: &mut [u32], end: usize, cell: u32, len: Length, p: Progress) -> Progress
+    requires { ⌜ (0 < end) × (end ≤ length (now work)) ⌝ }
+    ensures { λ r. ⌜ (r ≡ record { greatest = len; paths = 1; visited = p .visited; dropped = p .dropped })
+        × (now (work .exit) ≡ set (now (work .entry)) (end - 1) cell) ⌝ }
+{
+    work[end - 1] = cell;
+    Progress {
+        greatest: len,
+        paths: 1,
+        visited: p.visited,
+        dropped: p.dropped,
+    }
+}
+
+// One start more of the greatest length.
+fn join(work: &mut [u32], end: usize, cell: u32, p: Progress) -> Progress
+    requires { ⌜ Room (now work) end p ⌝ }
+    ensures { λ r. ⌜ (r ≡ record { greatest = p .greatest; paths = p .paths + 1; visited = p .visited; dropped = p .dropped })
+        × (now (work .exit) ≡ set (now (work .entry)) (end - (p .paths + 1)) cell) ⌝ }
+{
+    let paths = p.paths + 1;
+    work[end - index_of(paths)] = cell;
+    let greatest = p.greatest;
+    Progress {
+        greatest,
+        paths,
+        visited: p.visited,
+        dropped: p.dropped,
+    }
+}
+
+// A length is met: a shorter one than the greatest is forgotten, a longer one takes its place, a tie joins it.
+fn meet(work: &mut [u32], end: usize, cell: u32, len: Length, p: Progress) -> Progress
+    requires { ⌜ Room (now work) end p ⌝ }
+    ensures { λ r. ⌜ Met (now (work .entry)) (now (work .exit)) end cell len p r ⌝ }
+{
+    if p.paths == 0 {
+        return restart(work, end, cell, len, p);
+    }
+    let greatest = p.greatest;
+    match len.compare(greatest) {
+        Order::Shorter => p,
+        Order::Longer => restart(work, end, cell, len, p),
+        Order::Same => join(work, end, cell, p),
+    }
+}
+
+// A cell of n cells is visited at its length; a headwater meets it.
+pub fn visit(work: &mut [u32], end: usize, cell: u32, n: u32, len: Length, p: Progress) -> Progress
+    requires { ⌜ Room (now work) end p × (p .visited < 2 ^ 24) ⌝ }
+    ensures { λ r. ⌜ Visited (now (work .entry)) (now (work .exit)) end cell n len p r ⌝ }
+{
+    let greatest = p.greatest;
+    let q = Progress {
+        greatest,
+        paths: p.paths,
+        visited: p.visited + 1,
+        dropped: p.dropped,
+    };
+    if n == 1 {
+        return meet(work, end, cell, len, q);
+    }
+    q
+}
+
+// A neighbour is dropped with its n cells.
+pub fn drop_cells(p: Progress, n: u32) -> Progress
+    requires { ⌜ p .dropped + n ≤ 2 ^ 24 ⌝ }
+    ensures { λ r. ⌜ r ≡ record { greatest = p .greatest; paths = p .paths; visited = p .visited; dropped = p .dropped + n } ⌝ }
+{
+    let greatest = p.greatest;
+    Progress {
+        greatest,
+        paths: p.paths,
+        visited: p.visited,
+        dropped: p.dropped + n,
+    }
+}
+
+// Is a neighbour of n cells to be dropped, from a cell at this length? Not before a length is met, and not at a tie.
+pub fn is_dropped(dropping: bool, from: Length, n: u32, p: Progress) -> bool
+    requires { ⌜ (from .diagonal ≤ 2 ^ 24) × (n ≤ 2 ^ 24) ⌝ }
+    ensures { λ r. ⌜ ((s : Dir) (cs : List ℕ) → length cs ≡ p .paths
+        → r ≡ drops squares (firstRule squares dropping) (map (startAt (p .greatest)) cs) from s n) ⌝ }
+{
+    if !dropping {
+        return false;
+    }
+    if p.paths == 0 {
+        return false;
+    }
+    let limit = Length {
+        straight: from.straight,
+        diagonal: from.diagonal + n,
+    };
+    let greatest = p.greatest;
+    match limit.compare(greatest) {
+        Order::Shorter => true,
+        Order::Same => false,
+        Order::Longer => false,
+    }
+}
