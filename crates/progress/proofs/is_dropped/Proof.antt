@@ -7,9 +7,6 @@ use Rattle.progress.proofs.Kept.{not-dropping, none-met, limit-says}
 use borrow.Author.Needs.{needs}
 use Rattle.progress.proofs.is_dropped.Statement.{statement}
 use Rattle.progress.proofs.is_dropped.Tie as tie
-use Rattle.progress.proofs.is_dropped.Reads as reads
-use Rattle.progress.proofs.is_dropped.Lts as lts
-use Rattle.lengths.proofs.Length.compare.Reads as compare-reads
 
 returns : tie.Need-returns
 returns c = λ s cs e. not-dropping (c .before .args .from) (c .before .args .n) (c .before .args .p) s cs e

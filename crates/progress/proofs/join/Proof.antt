@@ -6,9 +6,6 @@ use lib.ListN.{set}
 use borrow.Author.Needs.{needs}
 use Rattle.progress.proofs.join.Statement.{statement}
 use Rattle.progress.proofs.join.Tie as tie
-use Rattle.progress.proofs.join.Reads as reads
-use Rattle.progress.proofs.join.Lts as lts
-use Rattle.ground.proofs.index_of.Reads as index-of-reads
 
 add-paths : tie.Need-add-paths
 add-paths c = search needs

@@ -15,11 +15,6 @@ use Rattle.progress.proofs.Kept.{
 use borrow.Author.Needs.{needs}
 use Rattle.progress.proofs.meet.Statement.{statement}
 use Rattle.progress.proofs.meet.Tie as tie
-use Rattle.progress.proofs.meet.Reads as reads
-use Rattle.progress.proofs.meet.Lts as lts
-use Rattle.lengths.proofs.Length.compare.Reads as compare-reads
-use Rattle.progress.proofs.join.Reads as join-reads
-use Rattle.progress.proofs.restart.Reads as restart-reads
 
 restart-requires : tie.Need-restart-requires
 restart-requires c κs = search needs

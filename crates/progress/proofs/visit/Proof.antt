@@ -4,9 +4,6 @@ use Rattle.progress.proofs.Kept.{visited-head, visited-inner}
 use borrow.Author.Needs.{needs}
 use Rattle.progress.proofs.visit.Statement.{statement}
 use Rattle.progress.proofs.visit.Tie as tie
-use Rattle.progress.proofs.visit.Reads as reads
-use Rattle.progress.proofs.visit.Lts as lts
-use Rattle.progress.proofs.meet.Reads as meet-reads
 
 add-t9 : tie.Need-add-t9
 add-t9 c = search needs

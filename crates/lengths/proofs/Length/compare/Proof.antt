@@ -9,11 +9,6 @@ use Rattle.lengths.specs.Rule.{signOf}
 use Rattle.lengths.proofs.Cases.{by-straight, by-diagonal, both-less, both-more, less-more, more-less}
 use Rattle.lengths.proofs.Length.compare.Statement.{statement}
 use Rattle.lengths.proofs.Length.compare.Tie as tie
-use Rattle.lengths.proofs.Length.compare.Reads as reads
-use Rattle.lengths.proofs.Length.compare.Lts as lts
-use Rattle.lengths.proofs.is_larger.Reads as is-larger-reads
-use Rattle.lengths.proofs.order_of.Reads as order-of-reads
-use Rattle.lengths.proofs.wide.Reads as wide-reads
 
 -- src/lib.rt:76:13
 wide-requires : tie.Need-wide-requires

@@ -1,8 +1,6 @@
 use borrow.Author.Needs.{needs}
 use Rattle.lengths.proofs.Length.plus.Statement.{statement}
 use Rattle.lengths.proofs.Length.plus.Tie as tie
-use Rattle.lengths.proofs.Length.plus.Reads as reads
-use Rattle.lengths.proofs.Length.plus.Lts as lts
 
 -- src/lib.rt:62:27
 enum-told : tie.Need-enum-told
