@@ -1,0 +1,96 @@
+-- `recursion::next_turn` meets its contract: in all directions passed over there was nothing to turn to.
+-- Assumes nothing.
+use mathlib.Core.Path.{_≡_, sym, ap, _∙_}
+use mathlib.Core.Option.{none}
+use Prim.Native.Nat.{ℕ, _+_, _-_, _*_, _≤_, _<_}
+use native.Mathlib.Omega.{arith}
+use borrow.Author.Needs.{needs}
+use Rattle.ground.specs.Grid.{gridOf}
+use Rattle.ground.specs.Moves.{spotCell, dirAt}
+use Rattle.search.specs.Neighbours.{inflowIn}
+use Rattle.recursion.proofs.Turning.{one-further}
+use Rattle.recursion.proofs.next_turn.Statement.{statement}
+use Rattle.recursion.proofs.next_turn.Tie as tie
+
+abbrev Inv-loop : tie.InvT-loop
+Inv-loop rows cols codes outlets row col k n₀ n =
+    (k ≤ n)
+    × (n ≤ 8)
+    × ((i : ℕ) → k ≤ i → i < n → inflowIn (gridOf rows cols codes) outlets (row * cols + col) (dirAt i) ≡ none)
+
+abbrev μ-loop : tie.MeasureT-loop
+μ-loop rows cols codes outlets row col k n₀ n = 8 - n
+
+loop-holds : tie.Need-loop-holds Inv-loop μ-loop
+loop-holds c = (omega arith, c .before .before .pre .1, λ i h l. absurd (omega arith))
+
+add-n : tie.Need-add-n Inv-loop μ-loop
+add-n c = search needs
+
+inflow-from-requires : tie.Need-inflow-from-requires Inv-loop μ-loop
+inflow-from-requires c κs = c .before .before .before .before .pre .0
+
+enum-known-r : tie.Need-enum-known-r Inv-loop μ-loop
+enum-known-r c = search needs
+
+returns : tie.Need-returns Inv-loop μ-loop
+returns c =
+    let l = c .before .before .before .before .before .loop in
+    let f = c .before .before .before .inflow-from .ensures in
+    let g = c .before .r .given in
+    record {
+      from = l .inv .0;
+      last = l .inv .1;
+      skipped = l .inv .2;
+      there = λ h. sym (f .is-cell)
+          ∙ ap (spotCell (c .before .before .before .before .before .before .before .before .args .cols)) (g .1);
+      row-in = λ h. f .row-in (g .0 .0) (g .0 .1 .0) (g .1);
+      col-in = λ h. f .col-in (g .0 .0) (g .0 .1 .0) (g .1);
+    }
+
+enum-told : tie.Need-enum-told Inv-loop μ-loop
+enum-told c = search needs
+
+loop-less : tie.Need-loop-less Inv-loop μ-loop
+loop-less c = search needs
+
+loop-again : tie.Need-loop-again Inv-loop μ-loop
+loop-again c =
+    let l = c .before .before .before .before .loop in
+    let a = c .before .before .before .before .before .before .before .args in
+    let f = c .before .before .inflow-from .ensures in (
+      omega arith,
+      omega arith,
+      one-further (λ i. inflowIn (gridOf (a .rows) (a .cols) (a .codes .now)) (a .outlets .now)
+          (a .row * a .cols + a .col) (dirAt i) ≡ none) (a .k) (l .n) (l .inv .2)
+          (sym (f .is-cell) ∙ ap (spotCell (a .cols)) (c .enum-told .given .1)),
+    )
+
+returns-2 : tie.Need-returns-2 Inv-loop μ-loop
+returns-2 c =
+    let l = c .before .loop in
+    let e : l .n ≡ 8 = omega arith in
+    record {
+      from = omega arith;
+      last = omega arith;
+      skipped = λ i h k. l .inv .2 i h (omega arith);
+      there = λ h. absurd (omega arith);
+      row-in = λ h. absurd (omega arith);
+      col-in = λ h. absurd (omega arith);
+    }
+
+pub next-turn-spec : {M : Type 1} → statement M
+next-turn-spec =
+    tie.close
+    (tie.spec
+    Inv-loop
+    μ-loop
+    loop-holds
+    add-n
+    inflow-from-requires
+    enum-known-r
+    returns
+    enum-told
+    loop-less
+    loop-again
+    returns-2)
