@@ -1,0 +1,5 @@
+pub mod Codes
+pub mod Lists
+pub mod Cells
+pub mod Numbers
+pub mod Passed

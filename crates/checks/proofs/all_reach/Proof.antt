@@ -1,0 +1,18 @@
+-- `checks::all_reach` meets its contract: each test decides one length.
+-- Assumes nothing.
+use mathlib.Core.Bool.{and-true}
+use borrow.Author.Tests.{le-leb, lt-leb}
+use Rattle.checks.proofs.all_reach.Statement.{statement}
+use Rattle.checks.proofs.all_reach.Tie as tie
+
+returns : tie.Need-returns
+returns c = rw (lt-leb _ _ (c .if1 .taken))
+
+returns-2 : tie.Need-returns-2
+returns-2 c = rw (le-leb _ _ (c .before .if1 .left), lt-leb _ _ (c .if2 .taken))
+
+returns-3 : tie.Need-returns-3
+returns-3 c = rw (le-leb _ _ (c .before .if1 .left), le-leb _ _ (c .if2 .left), and-true)
+
+pub all-reach-spec : {M : Type 1} → statement M
+all-reach-spec = tie.close (tie.spec returns returns-2 returns-3)
