@@ -72,6 +72,16 @@ goes-on (c ∷ cs) ds k e = go (c .passes) refl (goes-on cs ds (k .1))
     go true p ih = rw p (ih (rw p at e))
     go false p ih = absurd (k .0 (rw p at e))
 
+-- a number that none of them has is not given
+never : (n : ℕ) → (n ≡ 0 → ⊥) → (cs : List Check) → Every (λ c. c .number ≡ n → ⊥) cs → firstFailed cs ≡ n → ⊥
+unfolding firstFailed
+never n z [] k e = z (sym e)
+never n z (c ∷ cs) k e = go (c .passes) refl (never n z cs (k .1))
+  where
+    go : (b : Bool) → c .passes ≡ b → (firstFailed cs ≡ n → ⊥) → ⊥
+    go true p ih = ih (rw p at e)
+    go false p ih = k .0 (rw p at e)
+
 -- ---- the sizes
 
 pub side-small : (n : ℕ) → isSide n ≡ true → (0 < n) × (n ≤ 4096)
@@ -169,6 +179,13 @@ unfolding within check10 check11 check12
 beyond-grid rows cols codes lent ds e =
     goes-on (gridChecks rows cols codes lent) ds
     (apart 12 0 (inl (omega arith)) (gridChecks rows cols codes lent) refl) e
+
+-- and none of 10 to 12 is 13
+pub grid-not-13 : (rows cols : ℕ) (codes lent : List ℕ) → firstFailed (gridChecks rows cols codes lent) ≡ 13 → ⊥
+unfolding within check10 check11 check12
+grid-not-13 rows cols codes lent =
+    never 13 (λ e. absurd (omega arith)) (gridChecks rows cols codes lent)
+    (apart 12 13 (inr (omega arith)) (gridChecks rows cols codes lent) refl)
 
 module _ (rows cols : ℕ) (codes a lent : List ℕ) where
   abbrev pub agreedChecks : List Check

@@ -81,19 +81,20 @@ length-up : (n : ℕ) → length (upTo n) ≡ n
 length-up zero = refl
 length-up (suc n) = length-append (upTo n) (n ∷ []) ∙ omega (arith, length-up n)
 
--- a grid of numbers, at a cell
+-- a grid of numbers: its length, and what it holds at a cell
+pub grid-length : (f : ℕ → ℕ) (n : ℕ) → length (map f (upTo n)) ≡ n
+grid-length f n = length-map (upTo n) f ∙ length-up n
+
 pub grid-at : (f : ℕ → ℕ) (n x : ℕ) → x < n → getD (map f (upTo n)) x 0 ≡ f x
 grid-at f zero x h = absurd (omega arith)
 grid-at f (suc n) x h = go (eqb x n) refl (grid-at f n x)
   where
-    long : length (map f (upTo n)) ≡ n
-    long = length-map (upTo n) f ∙ length-up n
-
     go : (b : Bool) → eqb x n ≡ b → (x < n → getD (map f (upTo n)) x 0 ≡ f x) → getD (map f (upTo n ++ (n ∷ []))) x 0 ≡ f x
     go true e ih = rw (map-append f (upTo n) (n ∷ []))
-        (getD-at (map f (upTo n)) (f n) [] 0 x (long ∙ sym (eqb-true x n e)) ∙ ap f (sym (eqb-true x n e)))
+        (getD-at (map f (upTo n)) (f n) [] 0 x (grid-length f n ∙ sym (eqb-true x n e)) ∙ ap f (sym (eqb-true x n e)))
     go false e ih = let k : x < n = below (eqb-false x n e) in
-        rw (map-append f (upTo n) (n ∷ [])) (List·getD-append (map f (upTo n)) (f n ∷ []) 0 x (omega (arith, long))
+        rw (map-append f (upTo n) (n ∷ [])) (List·getD-append (map f (upTo n)) (f n ∷ []) 0 x
+        (omega (arith, grid-length f n))
         ∙ ih k)
       where
         below : (x ≡ n → ⊥) → x < n

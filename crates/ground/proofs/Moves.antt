@@ -185,7 +185,7 @@ module _ (g : Grid) (s : At Length) where
 
 -- its step, by what the source finds
 module _ {rows cols : ℕ} {codes : List ℕ} {w : Walk} (on : OnGrid rows cols codes w) where
-  abbrev land : Grid
+  abbrev pub land : Grid
   land = gridOf rows cols codes
 
   abbrev pub cellOf : ℕ
@@ -203,8 +203,11 @@ module _ {rows cols : ℕ} {codes : List ℕ} {w : Walk} (on : OnGrid rows cols 
   flow-is : flow land cellOf ≡ dirOf (getD codes cellOf 0)
   flow-is = ap dirOf (code-inside land cellOf inside)
 
+  pub next-nowhere : {l : Lead} → l ≡ leadOf (getD codes cellOf 0) → l ≡ Nowhere → next land cellOf ≡ none
+  next-nowhere e f = next-none land cellOf (flow-is ∙ leads-nowhere (getD codes cellOf 0) e f)
+
   pub ends-nowhere : {l : Lead} → l ≡ leadOf (getD codes cellOf 0) → l ≡ Nowhere → WalkedOn rows cols codes w w
-  ends-nowhere e f = stays (next-none land cellOf (flow-is ∙ leads-nowhere (getD codes cellOf 0) e f))
+  ends-nowhere e f = stays (next-nowhere e f)
 
   module _ {m : Move} (led : Leads (getD codes cellOf 0) m) where
     row-is : m .row ≡ shiftNumber (rowShift (led .dir))
@@ -228,15 +231,25 @@ module _ {rows cols : ℕ} {codes : List ℕ} {w : Walk} (on : OnGrid rows cols 
       next-spot = next-along land cellOf (led .dir) (flow-is ∙ led .points)
           ∙ ap (onto land (led .dir)) (lies p codes (on .col-in) (led .dir) row-is col-is)
 
+      pub next-off : s ≡ Off → next land cellOf ≡ none
+      next-off e = next-spot ∙ rw e
+
       pub ends-off : s ≡ Off → WalkedOn rows cols codes w w
-      ends-off e = stays (next-spot ∙ rw e)
+      ends-off e = stays (next-off e)
 
       module _ {row col : ℕ} (e : s ≡ On row col) where
         code-is : codeAt land (row * cols + col) ≡ getD codes (row * cols + col) 0
         code-is = code-inside land (row * cols + col) (spot-inside p e)
 
+        pub next-null : getD codes (row * cols + col) 0 ≡ 0 → next land cellOf ≡ none
+        next-null z = next-spot ∙ rw (e, eq-eqb (codeAt land (row * cols + col)) 0 (code-is ∙ z))
+
         pub ends-null : getD codes (row * cols + col) 0 ≡ 0 → WalkedOn rows cols codes w w
-        ends-null z = stays (next-spot ∙ rw (e, eq-eqb (codeAt land (row * cols + col)) 0 (code-is ∙ z)))
+        ends-null z = stays (next-null z)
+
+        pub next-goes : (getD codes (row * cols + col) 0 ≡ 0 → ⊥)
+            → next land cellOf ≡ some (record { cell = row * cols + col; step = led .dir })
+        next-goes z = next-spot ∙ rw (e, ne-eqb (codeAt land (row * cols + col)) 0 (λ q. z (sym code-is ∙ q)))
 
         pub goes-on : (getD codes (row * cols + col) 0 ≡ 0 → ⊥)
             → (l : Length) → l ≡ plusStep (counts (w .straight) (w .diagonal)) (m .step)
@@ -245,13 +258,10 @@ module _ {rows cols : ℕ} {codes : List ℕ} {w : Walk} (on : OnGrid rows cols 
         goes-on z l f = record {
           is-state = ap (λ (k : Length). record { cell = row * cols + col; len = k })
               (f ∙ ap (λ (n : Move). plusStep (counts (w .straight) (w .diagonal)) (n .step)) (led .is-move))
-              ∙ sym (state-goes land (stateOf cols w) (row * cols + col) (led .dir) steps);
+              ∙ sym (state-goes land (stateOf cols w) (row * cols + col) (led .dir) (next-goes z));
           row-in = p .row-in row col e;
           col-in = p .col-in row col e;
         }
-          where
-            steps : next land cellOf ≡ some (record { cell = row * cols + col; step = led .dir })
-            steps = next-spot ∙ rw (e, ne-eqb (codeAt land (row * cols + col)) 0 (λ q. z (sym code-is ∙ q)))
 
 -- ---- a walk that does not move is at its end
 

@@ -1,0 +1,3 @@
+pub mod Accumulated
+pub mod Checked
+pub mod Subaccumulated

@@ -1,0 +1,224 @@
+-- What looking at a cell and passing cells down do to the words of the lent grid.
+-- Assumes nothing.
+use mathlib.Core.Path.{_≡_, refl, sym, _∙_, subst}
+use mathlib.Core.Bool.{Bool, true, false}
+use mathlib.Core.List.{List}
+use mathlib.Core.Option.{none, some}
+use Prim.Native.Nat.{ℕ, suc, _+_, _-_, _*_, _%_, _≤_, _<_, _^_}
+use native.Mathlib.Nat.{mul-le-mul}
+use native.Mathlib.Numerals.{add-one}
+use native.Mathlib.Omega.{arith}
+use lib.ListN.{length, getD, set}
+use lib.Seq.{getD-set-same, getD-set-other}
+use Rattle.ground.specs.declared.Spot.{Spot}
+use Rattle.ground.specs.declared.Spot.the-variants.{Off, On}
+use Rattle.ground.specs.Lists.{sumOf}
+use Rattle.ground.specs.Grid.{Grid, gridOf, places, ground, next}
+use Rattle.ground.proofs.Cells.{ground-within}
+use Rattle.filling.specs.Packed.{Packed}
+use Rattle.filling.specs.Filling.{Fillable, Flows, flagOf, Kept, nextCut, upsCut, Looked, Down, Going, Passed}
+use Rattle.filling.proofs.Passing.{
+  partial-places,
+  look-on,
+  look-head,
+  pass-end,
+  pass-room,
+  pass-on,
+  pass-stop,
+}
+use Rattle.filling.proofs.Flags.{
+  flag-le,
+  flag-mod,
+  cut-network,
+  cut-few,
+  cut-flagged,
+  cut-plain,
+  plain,
+  cut-end,
+}
+use Rattle.filling.proofs.Steps.{off-on}
+use Rattle.filling.proofs.Counts.{flows-ground}
+use Rattle.filling.proofs.Kept.{kept-all, kept-then, sum-set}
+
+-- the bounds of a word
+pub word-bounds : (g : Grid) (outlets l : List ℕ) {i : ℕ} {busy : ℕ → Bool}
+    → Packed (upsCut g outlets) (ground g) (places g) (flagOf outlets) (λ y. getD l y 0) i busy
+    → (x : ℕ) → ground g x ≡ true
+    → (flagOf outlets x < getD l x 0) × (getD l x 0 ≤ flagOf outlets x + (8 * 2 ^ 25 + places g))
+word-bounds g outlets l p x v = (
+  omega (arith, p .is-word x v, p .is-partial x v),
+  omega (
+    arith,
+    p .is-word x v,
+    cut-few g outlets (p .passed) x,
+    partial-places (cut-network g outlets) p x v,
+  ),
+)
+
+module _ {rows cols : ℕ} {codes outlets l : List ℕ} (f : Fillable rows cols codes outlets l) where
+  abbrev land : Grid
+  land = gridOf rows cols codes
+
+  small : rows * cols ≤ 4096 * 4096
+  small = mul-le-mul (f .rows-small) (f .cols-small)
+
+  -- ---- a cell is looked at
+
+  module _ {i : ℕ} (inside : i < rows * cols) (p : Looked (gridOf rows cols codes) outlets l i) where
+    pub look-no : (getD l i 0 % 2 ^ 30 ≡ 1 → ⊥) → Looked (gridOf rows cols codes) outlets l (i + 1)
+    unfolding Looked
+    look-no n = rw (add-one i) (look-on (cut-network land outlets) p no-head)
+      where
+        no-head : ground land i ≡ true → getD l i 0 ≡ flagOf outlets i + 1 → ⊥
+        no-head v q = n (flag-mod outlets i (getD l i 0) (omega arith) (omega arith) ∙ omega arith)
+
+    pub look-yes : getD l i 0 % 2 ^ 30 ≡ 1 → Down (gridOf rows cols codes) outlets l (i + 1) i
+    unfolding Looked Down
+    look-yes q = rw (add-one i) (look-head (cut-network land outlets) p solid word)
+      where
+        by : (b : Bool) → ground land i ≡ b → ground land i ≡ true
+        by true v = v
+        by false v = absurd (omega (arith, q, p .null-word i inside v))
+
+        solid : ground land i ≡ true
+        solid = by (ground land i) refl
+
+        word : getD l i 0 ≡ flagOf outlets i + 1
+        word =
+            let b = word-bounds land outlets l p i solid in
+            omega (arith, q, small, b, flag-mod outlets i (getD l i 0) (omega (arith, b)) (omega (arith, b, small)))
+
+  -- ---- a cell is passed down
+
+  module _ (i x : ℕ) (d : Down (gridOf rows cols codes) outlets l i x) where
+    here-bounds : (flagOf outlets x < getD l x 0) × (getD l x 0 ≤ flagOf outlets x + rows * cols)
+    unfolding Down
+    here-bounds = (
+      omega (arith, d .held .is-word x (d .is-ground), d .held .is-partial x (d .is-ground)),
+      omega (
+        arith,
+        d .held .is-word x (d .is-ground),
+        d .waits,
+        partial-places (cut-network land outlets) (d .held) x (d .is-ground),
+      ),
+    )
+
+    ended : nextCut land outlets x ≡ none → Looked land outlets l i
+    unfolding Down Looked
+    ended e = pass-end (cut-network land outlets) d e
+
+    pub down-outlet : 2 ^ 30 ≤ getD l x 0 → Looked (gridOf rows cols codes) outlets l i
+    down-outlet h = ended (cut-flagged land outlets x (omega (arith, here-bounds, small)))
+
+    pub down-end : next (gridOf rows cols codes) x ≡ none → Looked (gridOf rows cols codes) outlets l i
+    down-end e = ended (cut-end land outlets x e)
+
+    module _ (low : getD l x 0 < 2 ^ 30) {z : ℕ} (to : Flows (gridOf rows cols codes) x z) where
+      abbrev w : ℕ
+      w = getD l z 0 + getD l x 0 - 2 ^ 25
+
+      abbrev new : List ℕ
+      new = set l z (getD l z 0 + getD l x 0 - 2 ^ 25)
+
+      steps : nextCut land outlets x ≡ some (record { cell = z; step = to .0 })
+      steps = cut-plain land outlets x (omega (arith, here-bounds)) ∙ to .1
+
+      z-ground : ground land z ≡ true
+      z-ground = flows-ground land x z to
+
+      in-z : z < length l
+      in-z = omega (arith, ground-within land z z-ground, f .has-grid)
+
+      z-bounds : (flagOf outlets z < getD l z 0) × (getD l z 0 ≤ flagOf outlets z + (8 * 2 ^ 25 + rows * cols))
+      unfolding Down
+      z-bounds = word-bounds land outlets l (d .held) z z-ground
+
+      room : flagOf outlets z + 2 ^ 25 ≤ getD l z 0
+      unfolding Down
+      room = pass-room (cut-network land outlets) d (plain land outlets) steps
+
+      -- the cell is no outlet, so its word is small
+      x-small : getD l x 0 ≤ rows * cols
+      x-small = omega (arith, here-bounds, plain land outlets x (record { cell = z; step = to .0 }) steps)
+
+      pub down-fits : (getD l z 0 + getD l x 0 < 2 ^ 32) × (2 ^ 25 ≤ getD l z 0 + getD l x 0)
+      down-fits = (omega (arith, z-bounds, flag-le outlets z, x-small, small), omega (arith, room))
+
+      pub down-less : sumOf (set l z (getD l z 0 + getD l x 0 - 2 ^ 25)) < sumOf l
+      down-less = omega (arith, sum-set l z w in-z, x-small, small, room)
+
+      z-mod : w % 2 ^ 30 ≡ w - flagOf outlets z
+      z-mod = flag-mod outlets z w (omega (arith, room)) (omega (arith, z-bounds, x-small, small))
+
+      there : getD new z 0 ≡ w
+      there = getD-set-same l z w 0 in-z
+
+      pub down-on : (getD l z 0 + getD l x 0 - 2 ^ 25) % 2 ^ 30 < 2 ^ 25
+          → Down (gridOf rows cols codes) outlets (set l z (getD l z 0 + getD l x 0 - 2 ^ 25)) i z
+      unfolding Down
+      down-on h = pass-on (cut-network land outlets) d (plain land outlets) steps there
+          (λ y n. getD-set-other l z y w 0 n) (omega (arith, h, z-mod, room, there))
+
+      pub down-stop : 2 ^ 25 ≤ (getD l z 0 + getD l x 0 - 2 ^ 25) % 2 ^ 30
+          → Looked (gridOf rows cols codes) outlets (set l z (getD l z 0 + getD l x 0 - 2 ^ 25)) i
+      unfolding Down Looked
+      down-stop h = pass-stop (cut-network land outlets) d (plain land outlets) steps there
+          (λ y n. getD-set-other l z y w 0 n) (omega (arith, small)) (omega (arith, h, z-mod, room, there))
+
+-- ---- the way down
+
+module _ {g : Grid} {outlets : List ℕ} {i : ℕ} where
+  ways-end : {l m : List ℕ} → Kept (places g) l m → Looked g outlets m i → Going g outlets i l m Off
+  ways-end k p = record {
+    is-down = λ r c e. absurd (off-on e);
+    row-in = λ r c e. absurd (off-on e);
+    col-in = λ r c e. absurd (off-on e);
+    is-done = λ e. p;
+    kept = k;
+  }
+
+  goes-on : {l m : List ℕ} {row col : ℕ} → Kept (places g) l m → row < g .rows → col < g .cols
+      → Down g outlets m i (row * g .cols + col) → Going g outlets i l m (On row col)
+  goes-on {m = m} {row = row} {col = col} k r c d = record {
+    is-down = λ x y e. let a : row ≡ x = cc in let b : col ≡ y = cc in
+        subst (λ (u : ℕ). Down g outlets m i (u * g .cols + y)) a
+        (subst (λ (u : ℕ). Down g outlets m i (row * g .cols + u)) b d);
+    row-in = λ x y e. let a : row ≡ x = cc in omega arith;
+    col-in = λ x y e. let b : col ≡ y = cc in omega arith;
+    is-done = λ e. absurd (off-on (sym e));
+    kept = k;
+  }
+
+  pub passed-off : {l m : List ℕ} → Kept (places g) l m → Looked g outlets m i → Passed g outlets i l m Off
+  passed-off k p = record { going = ways-end k p; less = λ r c e. absurd (off-on e) }
+
+  pub passed-on : {l m : List ℕ} {row col : ℕ} → Kept (places g) l m → row < g .rows → col < g .cols
+      → Down g outlets m i (row * g .cols + col) → sumOf m < sumOf l → Passed g outlets i l m (On row col)
+  passed-on k r c d h = record { going = goes-on k r c d; less = λ x y e. h }
+
+  pub going-begin : {l : List ℕ} {row col : ℕ} → row < g .rows → col < g .cols
+      → Down g outlets l i (row * g .cols + col) → Going g outlets i l l (On row col)
+  going-begin r c d = goes-on kept-all r c d
+
+  pub going-on : {l m n : List ℕ} {s t : Spot} → Going g outlets i l m s → Passed g outlets i m n t
+      → Going g outlets i l n t
+  going-on a p = record {
+    is-down = p .going .is-down;
+    row-in = p .going .row-in;
+    col-in = p .going .col-in;
+    is-done = p .going .is-done;
+    kept = kept-then (a .kept) (p .going .kept);
+  }
+
+-- its measure: what the words add up to, and nothing at its end
+abbrev pub ahead : Spot → ℕ → ℕ
+ahead Off n = 0
+ahead (On row col) n = suc n
+
+pub ahead-less : {s t : Spot} {row col m n : ℕ} → s ≡ On row col → ((r c : ℕ) → t ≡ On r c → n < m)
+    → ahead t n < ahead s m
+ahead-less {t = t} {m = m} {n = n} e h = rw e (go t h)
+  where
+    go : (u : Spot) → ((r c : ℕ) → u ≡ On r c → n < m) → ahead u n < suc m
+    go Off k = omega arith
+    go (On r c) k = omega (arith, k r c refl)

@@ -1,0 +1,188 @@
+-- From the passes to what filling answers and leaves.
+-- Assumes nothing.
+use mathlib.Core.Path.{_≡_, refl, sym, ap, _∙_, subst}
+use mathlib.Core.Bool.{Bool, true, false, _||_, true≢false}
+use mathlib.Core.List.{List, [], _∷_}
+use Prim.Native.Nat.{ℕ, suc, _+_, _-_, _*_, _%_, _≤_, _<_, _^_}
+use native.Mathlib.Nat.{mul-le-mul}
+use native.Mathlib.Omega.{arith}
+use lib.ListN.{length, getD, length-replicate, getD-replicate}
+use lib.Seq.{take-length}
+use lib.Dec.{eqb}
+use borrow.Author.Tests.{eqb-true}
+use Rattle.ground.specs.Lists.{member, allBelow}
+use Rattle.ground.specs.Grid.{Grid, gridOf, ground, inflows}
+use Rattle.ground.specs.Walk.{ends}
+use Rattle.ground.specs.Accumulation.{gathered, subaccumulation, subaccumulations}
+use Rattle.ground.specs.Subwatershed.{isOutlet}
+use Rattle.ground.proofs.Lists.{all-below, below-all}
+use Rattle.ground.proofs.Walks.{ends-none}
+use Rattle.ground.proofs.Cells.{ground-within, ground-sub, null-sub}
+use Rattle.ground.proofs.Ground.{grid-length, grid-at}
+use Rattle.answers.specs.Entries.{zeros}
+use Rattle.filling.specs.Packed.{waiting}
+use Rattle.filling.specs.Filling.{
+  Fillable,
+  Within,
+  flagIf,
+  flagOf,
+  Kept,
+  Cleared,
+  Flagged,
+  stripIf,
+  Stripped,
+  isSettled,
+  nextCut,
+  upsCut,
+  Counted,
+  Looked,
+  cutFree,
+  filledIf,
+}
+use Rattle.filling.proofs.Cut.{gathered-cut}
+use Rattle.filling.proofs.Passing.{partial-places}
+use Rattle.filling.proofs.AllLooked.{settled-word, settled-ends, ends-settled}
+use Rattle.filling.proofs.Counting.{count-begin, count-all}
+use Rattle.filling.proofs.Flags.{flag-mod, cut-network, cut-null}
+use Rattle.filling.proofs.Descents.{word-bounds}
+use Rattle.filling.proofs.Sweeps.{waits-not, settled-less}
+use Rattle.filling.proofs.Kept.{kept-then}
+use Rattle.filling.proofs.Fronts.{front-is}
+
+member-in : (P : ℕ → Type 0) (xs : List ℕ) → ((j : ℕ) → j < length xs → P (getD xs j 0)) → (x : ℕ)
+    → member x xs ≡ true → P x
+member-in P [] h x e = absurd (true≢false (sym e))
+member-in P (o ∷ xs) h x e = go (eqb o x) refl (member-in P xs (λ j l. h (suc j) (omega arith)) x)
+  where
+    go : (b : Bool) → eqb o x ≡ b → (member x xs ≡ true → P x) → P x
+    go true q ih = subst P (eqb-true o x q) (h 0 (omega arith))
+    go false q ih = ih (sym (ap (λ (b : Bool). b || member x xs) q) ∙ e)
+
+module _ {rows cols : ℕ} {codes outlets l : List ℕ} (f : Fillable rows cols codes outlets l) where
+  abbrev land : Grid
+  land = gridOf rows cols codes
+
+  small : rows * cols ≤ 4096 * 4096
+  small = mul-le-mul (f .rows-small) (f .cols-small)
+
+  pub outlets-within : Within (rows * cols) outlets
+  outlets-within j h = ground-within land (getD outlets j 0) (f .on-ground j h)
+
+  -- a grid of flags is counted up to none,
+  pub counted-begin : {old : List ℕ} → Flagged (rows * cols) outlets (length outlets) old l
+      → Counted (gridOf rows cols codes) outlets l 0
+  unfolding Counted
+  counted-begin s = count-begin (cut-network land outlets) (λ x v. flags x (ground-within land x v))
+      (λ x h v. flags x h ∙ ap flagIf (plain x v (member x outlets) refl))
+    where
+      flags : (x : ℕ) → x < rows * cols → getD l x 0 ≡ flagOf outlets x
+      flags x h = s .are-flags x h ∙ ap (λ (l : List ℕ). flagOf l x) (take-length outlets)
+
+      plain : (x : ℕ) → ground land x ≡ false → (b : Bool) → member x outlets ≡ b → member x outlets ≡ false
+      plain x v true e =
+          absurd (true≢false (sym (member-in (λ y. ground land y ≡ true) outlets (f .on-ground) x e) ∙ v))
+      plain x v false e = e
+
+  -- and a counted grid is looked at up to none
+  pub looked-begin : Counted (gridOf rows cols codes) outlets l (rows * cols)
+      → Looked (gridOf rows cols codes) outlets l 0
+  unfolding Counted Looked
+  looked-begin c = count-all (cut-network land outlets) c
+
+  -- ---- all cells are looked at
+
+  module _ (p : Looked (gridOf rows cols codes) outlets l (rows * cols)) where
+    word-mod : (x : ℕ) → ground land x ≡ true → getD l x 0 % 2 ^ 30 ≡ getD l x 0 - flagOf outlets x
+    unfolding Looked
+    word-mod x v =
+        let b = word-bounds land outlets l p x v in
+        flag-mod outlets x (getD l x 0) (omega (arith, b)) (omega (arith, b, small))
+
+    -- NOTHING WAITS
+    module _ (d : allBelow (isSettled l) (rows * cols) ≡ true) where
+      none-waits : (x : ℕ) → ground land x ≡ true → (k m : ℕ) → getD l x 0 ≡ flagOf outlets x + (2 ^ 25 * k + m) → k ≡ 0
+      none-waits x v k m e = omega (
+        arith,
+        e,
+        word-mod x v,
+        settled-less l x (all-below (isSettled l) (rows * cols) d x (ground-within land x v)),
+      )
+
+      pub settled-free : cutFree (gridOf rows cols codes) outlets ≡ true
+      unfolding Looked cutFree
+      settled-free = below-all (ends (nextCut land outlets) (rows * cols)) (rows * cols) (λ x h. go x (ground land x) refl)
+        where
+          go : (x : ℕ) (b : Bool) → ground land x ≡ b → ends (nextCut land outlets) (rows * cols) x ≡ true
+          go x true v = settled-ends (cut-network land outlets) p
+              (λ y u. none-waits y u (waiting (upsCut land outlets) (p .passed) y) (p .partial y) (p .is-word y u)) x v
+          go x false v = ends-none (nextCut land outlets) (rows * cols) x (cut-null land outlets x v)
+
+      words : (x : ℕ) → ground land x ≡ true
+          → getD l x 0 ≡ flagOf outlets x + gathered (inflows land) (isOutlet land outlets) (rows * cols) x
+      unfolding Looked
+      words x v = settled-word (cut-network land outlets) p
+          (λ y u. none-waits y u (waiting (upsCut land outlets) (p .passed) y) (p .partial y) (p .is-word y u)) x v
+          ∙ ap (λ (n : ℕ). flagOf outlets x + n) (gathered-cut (isOutlet land outlets) (inflows land) (rows * cols) x)
+
+      stripped : (b : Bool) (w n : ℕ) → w % 2 ^ 30 ≡ w - flagIf b → w ≡ flagIf b + n → stripIf b w ≡ n
+      stripped true w n e g = omega arith
+      stripped false w n e g = omega arith
+
+      strip-null : (b : Bool) (w : ℕ) → w ≡ 0 → stripIf b w ≡ 0
+      strip-null true w e = omega arith
+      strip-null false w e = e
+
+      values : {m : List ℕ} → Stripped (rows * cols) outlets (length outlets) l m → (x : ℕ) → x < rows * cols
+          → getD m x 0 ≡ subaccumulation land outlets x
+      unfolding Looked
+      values s x h = s .words x ∙ ap (λ (o : List ℕ). stripIf (member x o) (getD l x 0)) (take-length outlets)
+          ∙ go (ground land x) refl
+        where
+          go : (b : Bool) → ground land x ≡ b → stripIf (member x outlets) (getD l x 0) ≡ subaccumulation land outlets x
+          go true v = stripped (member x outlets) (getD l x 0)
+              (gathered (inflows land) (isOutlet land outlets) (rows * cols) x) (word-mod x v) (words x v)
+              ∙ sym (ground-sub land outlets x v)
+          go false v = strip-null (member x outlets) (getD l x 0) (p .null-word x h v) ∙ sym (null-sub land outlets x v)
+
+      pub settled-filled : {old m : List ℕ} → Kept (rows * cols) old l
+          → Stripped (rows * cols) outlets (length outlets) l m → m ≡ filledIf (gridOf rows cols codes) outlets true old
+      settled-filled {old} {m} k s = front-is (subaccumulations land outlets)
+          (omega (arith, long, k .same-length, f .has-grid))
+          (subst (λ (n : ℕ). Kept n old m) (sym long) (kept-then k (s .kept)))
+          (λ x h. let i : x < rows * cols = omega (arith, long) in
+          values s x i ∙ sym (grid-at (subaccumulation land outlets) (rows * cols) x i))
+        where
+          long : length (subaccumulations land outlets) ≡ rows * cols
+          long = grid-length (subaccumulation land outlets) (rows * cols)
+
+    -- SOMETHING WAITS
+    pub waits-ring : allBelow (isSettled l) (rows * cols) ≡ false → cutFree (gridOf rows cols codes) outlets ≡ false
+    unfolding Looked cutFree
+    waits-ring d = go (cutFree land outlets) refl
+      where
+        dry : cutFree land outlets ≡ true → (x : ℕ) (b : Bool) → ground land x ≡ b → x < rows * cols → isSettled l x ≡ true
+        dry e x true v h = waits-not l x (omega (
+          arith,
+          small,
+          word-mod x v,
+          p .is-word x v,
+          ends-settled (cut-network land outlets) p
+              (λ y u. all-below (ends (nextCut land outlets) (rows * cols)) (rows * cols) e y (ground-within land y u)) x v,
+          partial-places (cut-network land outlets) p x v,
+        ))
+        dry e x false v h = waits-not l x (omega (arith, p .null-word x h v))
+
+        go : (b : Bool) → cutFree land outlets ≡ b → cutFree land outlets ≡ false
+        go true e = absurd (true≢false
+            (sym (below-all (isSettled l) (rows * cols) (λ x h. dry e x (ground land x) refl h)) ∙ d))
+        go false e = e
+
+  pub cleared-filled : {old m : List ℕ} → Kept (rows * cols) old l → Cleared (rows * cols) (rows * cols) l m
+      → m ≡ filledIf (gridOf rows cols codes) outlets false old
+  cleared-filled {old} {m} k c = front-is (zeros (rows * cols)) (omega (arith, long, k .same-length, f .has-grid))
+      (subst (λ (n : ℕ). Kept n old m) (sym long) (kept-then k (c .kept)))
+      (λ x h. let i : x < rows * cols = omega (arith, long) in
+      c .are-zero x i ∙ sym (getD-replicate (rows * cols) x 0 0 i))
+    where
+      long : length (zeros (rows * cols)) ≡ rows * cols
+      long = length-replicate (rows * cols) 0

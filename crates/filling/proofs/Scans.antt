@@ -1,0 +1,49 @@
+-- A scan of all cells by number, with row and column carried along: what is true of the words and the number of cells
+-- passed, turn by turn.
+-- Assumes nothing.
+use mathlib.Core.Path.{_≡_, subst}
+use mathlib.Core.List.{List}
+use Prim.Native.Nat.{ℕ, _+_, _*_, _≤_, _<_}
+use native.Mathlib.Omega.{arith}
+use Rattle.ground.proofs.Cells.{in-rows}
+use Rattle.filling.specs.Filling.{Kept}
+use Rattle.filling.proofs.Kept.{kept-all, kept-then}
+
+pub record Scan (P : List ℕ → ℕ → Type 0) (rows cols : ℕ) (old new : List ℕ) (row col at : ℕ) : Type 0 where
+  pub is-at : at ≡ row * cols + col
+  pub col-in : col < cols
+  pub at-in : at ≤ rows * cols
+  pub holds : P new at
+  pub kept : Kept (rows * cols) old new
+
+pub scan-begin : {P : List ℕ → ℕ → Type 0} {rows cols : ℕ} {l : List ℕ} → 0 < cols → P l 0
+    → Scan P rows cols l l 0 0 0
+scan-begin h p = record { is-at = omega arith; col-in = h; at-in = omega arith; holds = p; kept = kept-all }
+
+module _ {P : List ℕ → ℕ → Type 0} {rows cols : ℕ} {old new : List ℕ} {row col at : ℕ}
+    (s : Scan P rows cols old new row col at) where
+  -- at a cell
+  pub scan-row : at < rows * cols → row < rows
+  scan-row h = in-rows row col rows cols (omega (arith, s .is-at))
+
+  pub scan-here : P new (row * cols + col)
+  scan-here = subst (P new) (s .is-at) (s .holds)
+
+  -- and one cell on
+  pub scan-on : {row′ col′ : ℕ} {next : List ℕ} → at < rows * cols
+      → (row′ * cols + col′ ≡ row * cols + col + 1) × (col′ < cols)
+      → P next (row * cols + col + 1) → Kept (rows * cols) new next → Scan P rows cols old next row′ col′ (at + 1)
+  scan-on {next = next} h e p k =
+      let q : row * cols + col + 1 ≡ at + 1 = omega (arith, s .is-at) in
+      record {
+        is-at = omega (arith, e .0, q);
+        col-in = e .1;
+        at-in = omega arith;
+        holds = subst (P next) q p;
+        kept = kept-then (s .kept) k;
+      }
+
+  pub scan-end : rows * cols ≤ at → P new (rows * cols)
+  scan-end h =
+      let e : at ≡ rows * cols = omega (arith, s .at-in) in
+      subst (P new) e (s .holds)

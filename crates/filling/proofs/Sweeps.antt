@@ -1,0 +1,130 @@
+-- One turn of each loop over the places or the outlets: clearing, flagging, taking flags away, asking who waits.
+-- Assumes nothing.
+use mathlib.Core.Path.{_≡_, refl, sym, ap, _∙_, subst}
+use mathlib.Core.Bool.{Bool, true, false, _||_, or-true, or-false, or-assoc, true≢false}
+use mathlib.Core.List.{List, [], _∷_, _++_}
+use Prim.Native.Nat.{ℕ, suc, _+_, _%_, _≤_, _<_, _^_}
+use native.Mathlib.Numerals.{add-one}
+use native.Mathlib.Omega.{arith}
+use lib.ListN.{length, getD, set, take}
+use lib.Seq.{getD-set-same, getD-set-other, take-suc}
+use lib.Dec.{eqb}
+use borrow.Author.Tests.{eqb-true, eqb-false, ltb-true, lt-ltb, le-ltb}
+use Rattle.ground.specs.Lists.{member, allBelow}
+use Rattle.ground.proofs.Lists.{all-below}
+use Rattle.filling.specs.Filling.{flagIf, flagOf, Cleared, Flagged, stripIf, Stripped, isSettled}
+use Rattle.filling.proofs.Kept.{kept-all, kept-then, kept-set}
+
+-- ---- clearing
+
+pub clear-begin : {n : ℕ} {l : List ℕ} → Cleared n 0 l l
+clear-begin = record { kept = kept-all; are-zero = λ x h. absurd (omega arith) }
+
+pub clear-step : {n i : ℕ} {l m : List ℕ} → i < n → n ≤ length l → Cleared n i l m → Cleared n (i + 1) l (set m i 0)
+clear-step {n} {i} {l} {m} h r c = record {
+  kept = kept-then (c .kept) (kept-set i 0 h);
+  are-zero = λ x k. go x k (eqb x i) refl;
+}
+  where
+    less : (x : ℕ) → x < i + 1 → (x ≡ i → ⊥) → x < i
+    less x k f = omega arith
+
+    go : (x : ℕ) → x < i + 1 → (b : Bool) → eqb x i ≡ b → getD (set m i 0) x 0 ≡ 0
+    go x k true e = subst (λ (y : ℕ). getD (set m i 0) y 0 ≡ 0) (sym (eqb-true x i e))
+        (getD-set-same m i 0 0 (omega (arith, c .kept .same-length)))
+    go x k false e = let f = eqb-false x i e in getD-set-other m i x 0 0 f ∙ c .are-zero x (less x k f)
+
+-- ---- the first j outlets and one more
+
+member-snoc : (x : ℕ) (xs : List ℕ) (o : ℕ) → member x (xs ++ (o ∷ [])) ≡ (member x xs || eqb o x)
+member-snoc x [] o = or-false (eqb o x)
+member-snoc x (y ∷ xs) o = ap (λ (b : Bool). eqb y x || b) (member-snoc x xs o)
+    ∙ sym (or-assoc (eqb y x) (member x xs) (eqb o x))
+
+module _ (outlets : List ℕ) (j : ℕ) (h : j < length outlets) (x : ℕ) where
+  member-more : member x (take (suc j) outlets) ≡ (member x (take j outlets) || eqb (getD outlets j 0) x)
+  member-more = ap (member x) (take-suc outlets j 0 h) ∙ member-snoc x (take j outlets) (getD outlets j 0)
+
+  member-it : eqb (getD outlets j 0) x ≡ true → member x (take (suc j) outlets) ≡ true
+  member-it e = member-more ∙ ap (λ (b : Bool). member x (take j outlets) || b) e ∙ or-true (member x (take j outlets))
+
+  member-other : eqb (getD outlets j 0) x ≡ false → member x (take (suc j) outlets) ≡ member x (take j outlets)
+  member-other e = member-more ∙ ap (λ (b : Bool). member x (take j outlets) || b) e
+      ∙ or-false (member x (take j outlets))
+
+-- ---- flagging
+
+pub flag-begin : {n : ℕ} {outlets l : List ℕ} → ((x : ℕ) → x < n → getD l x 0 ≡ 0) → Flagged n outlets 0 l l
+flag-begin z = record { kept = kept-all; are-flags = z }
+
+pub flag-step : {n j o : ℕ} {outlets l m : List ℕ} → o ≡ getD outlets j 0 → j < length outlets → getD outlets j 0 < n
+    → n ≤ length l → Flagged n outlets j l m → Flagged n outlets (j + 1) l (set m o (2 ^ 30))
+flag-step {n} {j} {o} {outlets} {l} {m} s h i r f = rw (add-one j) (record {
+  kept = kept-then (f .kept) (kept-set o (2 ^ 30) (omega arith));
+  are-flags = λ x k. go x k (eqb o x) refl;
+})
+  where
+    at-o : (x : ℕ) {b : Bool} → eqb o x ≡ b → eqb (getD outlets j 0) x ≡ b
+    at-o x e = ap (λ (y : ℕ). eqb y x) (sym s) ∙ e
+
+    go : (x : ℕ) → x < n → (b : Bool) → eqb o x ≡ b → getD (set m o (2 ^ 30)) x 0 ≡ flagOf (take (suc j) outlets) x
+    go x k true e = subst (λ (y : ℕ). getD (set m o (2 ^ 30)) y 0 ≡ 2 ^ 30) (eqb-true o x e)
+        (getD-set-same m o (2 ^ 30) 0 (omega (arith, f .kept .same-length)))
+        ∙ sym (ap flagIf (member-it outlets j h x (at-o x e)))
+    go x k false e = getD-set-other m o x (2 ^ 30) 0 (λ q. eqb-false o x e (sym q)) ∙ f .are-flags x k
+        ∙ sym (ap flagIf (member-other outlets j h x (at-o x e)))
+
+-- ---- taking flags away
+
+pub strip-begin : {n : ℕ} {outlets l : List ℕ} → Stripped n outlets 0 l l
+strip-begin = record { kept = kept-all; words = λ x. refl }
+
+strip-twice : (b : Bool) (w : ℕ) → stripIf b w % 2 ^ 30 ≡ w % 2 ^ 30
+strip-twice true w = omega arith
+strip-twice false w = refl
+
+pub strip-step : {n j o : ℕ} {outlets l m : List ℕ} → o ≡ getD outlets j 0 → j < length outlets → getD outlets j 0 < n
+    → n ≤ length l → Stripped n outlets j l m → Stripped n outlets (j + 1) l (set m o (getD m o 0 % 2 ^ 30))
+strip-step {n} {j} {o} {outlets} {l} {m} s h i r f = rw (add-one j) (record {
+  kept = kept-then (f .kept) (kept-set o (getD m o 0 % 2 ^ 30) (omega arith));
+  words = λ x. go x (eqb o x) refl;
+})
+  where
+    at-o : (x : ℕ) {b : Bool} → eqb o x ≡ b → eqb (getD outlets j 0) x ≡ b
+    at-o x e = ap (λ (y : ℕ). eqb y x) (sym s) ∙ e
+
+    v : ℕ
+    v = getD m o 0 % 2 ^ 30
+
+    go : (x : ℕ) (b : Bool) → eqb o x ≡ b
+        → getD (set m o (getD m o 0 % 2 ^ 30)) x 0 ≡ stripIf (member x (take (suc j) outlets)) (getD l x 0)
+    go x true e = subst (λ (y : ℕ). getD (set m o (getD m o 0 % 2 ^ 30)) y 0 ≡ getD l y 0 % 2 ^ 30) (eqb-true o x e)
+        (getD-set-same m o (getD m o 0 % 2 ^ 30) 0 (omega (arith, f .kept .same-length))
+        ∙ ap (λ (w : ℕ). w % 2 ^ 30) (f .words o) ∙ strip-twice (member o (take j outlets)) (getD l o 0))
+        ∙ sym (ap (λ (b : Bool). stripIf b (getD l x 0)) (member-it outlets j h x (at-o x e)))
+    go x false e = getD-set-other m o x (getD m o 0 % 2 ^ 30) 0 (λ q. eqb-false o x e (sym q)) ∙ f .words x
+        ∙ sym (ap (λ (b : Bool). stripIf b (getD l x 0)) (member-other outlets j h x (at-o x e)))
+
+-- ---- asking who waits
+
+pub all-fails : (f : ℕ → Bool) (n i : ℕ) → i < n → f i ≡ false → allBelow f n ≡ false
+all-fails f n i h e = go (allBelow f n) refl
+  where
+    go : (b : Bool) → allBelow f n ≡ b → allBelow f n ≡ false
+    go true q = absurd (true≢false (sym (all-below f n q i h) ∙ e))
+    go false q = q
+
+pub all-more : (f : ℕ → Bool) (i : ℕ) → allBelow f i ≡ true → f i ≡ true → allBelow f (i + 1) ≡ true
+all-more f i h e = rw (add-one i) (rw e h)
+
+pub waits-still : (l : List ℕ) (x : ℕ) → 2 ^ 25 ≤ getD l x 0 % 2 ^ 30 → isSettled l x ≡ false
+unfolding isSettled
+waits-still l x h = le-ltb (getD l x 0 % 2 ^ 30) (2 ^ 25) h
+
+pub waits-not : (l : List ℕ) (x : ℕ) → getD l x 0 % 2 ^ 30 < 2 ^ 25 → isSettled l x ≡ true
+unfolding isSettled
+waits-not l x h = lt-ltb (getD l x 0 % 2 ^ 30) (2 ^ 25) h
+
+pub settled-less : (l : List ℕ) (x : ℕ) → isSettled l x ≡ true → getD l x 0 % 2 ^ 30 < 2 ^ 25
+unfolding isSettled
+settled-less l x h = ltb-true (getD l x 0 % 2 ^ 30) (2 ^ 25) h

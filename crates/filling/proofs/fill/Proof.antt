@@ -1,0 +1,115 @@
+-- `filling::fill` meets its contract: what each pass leaves is what the next asks.
+-- Assumes nothing.
+use mathlib.Core.Path.{sym, _∙_}
+use Prim.Native.Nat.{_*_}
+use native.Mathlib.Omega.{arith}
+use borrow.Author.Needs.{needs}
+use borrow.Author.Tests.{not-true, not-false}
+use Rattle.filling.specs.Filling.{Fillable, Kept}
+use Rattle.filling.proofs.Kept.{kept-then, fillable-kept}
+use Rattle.filling.proofs.Results.{outlets-within, counted-begin, looked-begin}
+use Rattle.filling.proofs.Results.{settled-free, settled-filled, waits-ring, cleared-filled}
+use Rattle.filling.proofs.fill.Statement.{statement}
+use Rattle.filling.proofs.fill.Tie as tie
+
+-- the function's start, seen from after each pass
+abbrev flag-start : tie.After-flag → tie.Start
+flag-start c = c .before .before .before .before .before .before .before .before .before
+
+abbrev count-start : tie.After-count-all → tie.Start
+count-start c = flag-start (c .before .before .before .before)
+
+abbrev look-start : tie.After-look-at-all → tie.Start
+look-start c = count-start (c .before .before .before .before)
+
+-- beyond the cells every pass keeps what was lent
+kept-flagged : (c : tie.After-flag) → let s = flag-start c .args in
+    Kept (s .rows * s .cols) (s .grid .now) (c .flag .last .1 .1 .0)
+kept-flagged c = kept-then (c .before .before .before .before .clear .ensures .kept) (c .flag .ensures .kept)
+
+kept-counted : (c : tie.After-count-all) → let s = count-start c .args in
+    Kept (s .rows * s .cols) (s .grid .now) (c .count-all .last .1 .1 .1 .1 .0)
+kept-counted c = kept-then (kept-flagged (c .before .before .before .before)) (c .count-all .ensures .1)
+
+kept-looked : (c : tie.After-look-at-all) → let s = look-start c .args in
+    Kept (s .rows * s .cols) (s .grid .now) (c .look-at-all .last .1 .1 .1 .1 .0)
+kept-looked c = kept-then (kept-counted (c .before .before .before .before)) (c .look-at-all .ensures .1)
+
+looked : (c : tie.After-look-at-all) → let s = look-start c .args in
+    Fillable (s .rows) (s .cols) (s .codes .now) (s .outlets .now) (c .look-at-all .last .1 .1 .1 .1 .0)
+looked c = fillable-kept (kept-looked c) (look-start c .pre)
+
+mul-n : tie.Need-mul-n
+mul-n c = search needs
+
+clear-requires : tie.Need-clear-requires
+clear-requires c κs = search needs
+
+flag-requires : tie.Need-flag-requires
+flag-requires c κs =
+    let s = c .before .before .before .before .before .before .before .before in
+    let k = c .before .before .before .clear .ensures in
+    (omega (arith, s .pre .has-grid, k .kept .same-length), outlets-within (s .pre), k .are-zero)
+
+count-all-requires : tie.Need-count-all-requires
+count-all-requires c κs =
+    let p = c .before .before .before in
+    let f = fillable-kept (kept-flagged p) (flag-start p .pre) in
+    (f, counted-begin f (p .flag .ensures))
+
+look-at-all-requires : tie.Need-look-at-all-requires
+look-at-all-requires c κs =
+    let p = c .before .before .before in
+    let f = fillable-kept (kept-counted p) (count-start p .pre) in
+    (f, looked-begin f (p .count-all .ensures .0))
+
+settled-requires : tie.Need-settled-requires
+settled-requires c κs = search needs
+
+clear-requires-2 : tie.Need-clear-requires-2
+clear-requires-2 c κs = search needs
+
+same-length : tie.Need-same-length
+same-length c = search needs
+
+returns : tie.Need-returns
+returns c =
+    let l = c .before .before .before .before .before .before .before .before .before in
+    let s = c .before .before .before .before .before .settled in
+    let d = sym (s .ensures) ∙ not-true (s .result) (c .before .before .before .before .if1 .taken) in (
+      sym (waits-ring (looked l) (l .look-at-all .ensures .0) d),
+      cleared-filled (looked l) (kept-looked l) (c .before .before .clear2 .ensures),
+    )
+
+strip-requires : tie.Need-strip-requires
+strip-requires c κs = let f = looked (c .before .before .before .before .before .before) in (f .has-grid, outlets-within f)
+
+same-length-2 : tie.Need-same-length-2
+same-length-2 c = search needs
+
+returns-2 : tie.Need-returns-2
+returns-2 c =
+    let l = c .before .before .before .before .before .before .before .before .before in
+    let s = c .before .before .before .before .before .settled in
+    let d = sym (s .ensures) ∙ not-false (s .result) (c .before .before .before .before .if1 .left) in
+    let p = l .look-at-all .ensures .0 in (
+      sym (settled-free (looked l) p d),
+      settled-filled (looked l) p d (kept-looked l) (c .before .before .strip .ensures),
+    )
+
+pub fill-spec : {M : Type 1} → statement M
+fill-spec =
+    tie.close
+    (tie.spec
+    mul-n
+    clear-requires
+    flag-requires
+    count-all-requires
+    look-at-all-requires
+    settled-requires
+    clear-requires-2
+    same-length
+    returns
+    strip-requires
+    same-length-2
+    returns-2)

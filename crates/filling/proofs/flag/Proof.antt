@@ -1,0 +1,85 @@
+-- `filling::flag` meets its contract. The invariant: the first j outlets are flagged.
+-- Assumes nothing.
+use mathlib.Core.Path.{_≡_, subst}
+use Prim.Native.Nat.{ℕ, _-_, _≤_}
+use native.Mathlib.Omega.{arith}
+use borrow.Author.Needs.{needs}
+use lib.ListN.{length}
+use Rattle.filling.specs.Filling.{Flagged}
+use Rattle.filling.proofs.Sweeps.{flag-begin, flag-step}
+use Rattle.filling.proofs.flag.Statement.{statement}
+use Rattle.filling.proofs.flag.Tie as tie
+
+abbrev Inv-loop : tie.InvT-loop
+Inv-loop n outlets grid₀ j₀ grid j = (j ≤ length outlets) × Flagged n outlets j grid₀ grid
+
+abbrev μ-loop : tie.MeasureT-loop
+μ-loop n outlets grid₀ j₀ grid j = length outlets - j
+
+loop-holds : tie.Need-loop-holds Inv-loop μ-loop
+loop-holds c = (search needs, flag-begin (c .before .before .pre .2))
+
+mul-index-of : tie.Need-mul-index-of Inv-loop μ-loop
+mul-index-of c = search needs
+
+shared-slice-read-index-of : tie.Need-shared-slice-read-index-of Inv-loop μ-loop
+shared-slice-read-index-of c = search needs
+
+index-of-requires : tie.Need-index-of-requires Inv-loop μ-loop
+index-of-requires c κs = search needs
+
+mul-grid : tie.Need-mul-grid Inv-loop μ-loop
+mul-grid c = search needs
+
+slice-write-grid : tie.Need-slice-write-grid Inv-loop μ-loop
+slice-write-grid c =
+    let s = c .before .before .before .before .before .before in
+    omega (
+      arith,
+      c .index-of .ensures,
+      s .pre .0,
+      s .pre .1 (c .before .before .before .loop .j) (c .before .before .loop-test .taken),
+      c .before .before .before .loop .inv .1 .kept .same-length,
+    )
+
+add-j : tie.Need-add-j Inv-loop μ-loop
+add-j c = search needs
+
+loop-less : tie.Need-loop-less Inv-loop μ-loop
+loop-less c = search needs
+
+loop-again : tie.Need-loop-again Inv-loop μ-loop
+loop-again c =
+    let s = c .before .before .before .before .before .before in
+    let h = c .before .before .loop-test .taken in (
+      search needs,
+      flag-step (c .index-of .ensures .0) h (s .pre .1 (c .before .before .before .loop .j) h) (s .pre .0)
+          (c .before .before .before .loop .inv .1),
+    )
+
+same-length : tie.Need-same-length Inv-loop μ-loop
+same-length c = c .before .loop .inv .1 .kept .same-length
+
+returns : tie.Need-returns Inv-loop μ-loop
+returns c =
+    let s = c .before .before .before .before .args in
+    let e : c .before .loop .j ≡ length (s .outlets .now) = omega arith in
+    subst (λ (j : ℕ). Flagged (s .n) (s .outlets .now) j (s .grid .now) (c .before .loop .grid)) e (c .before .loop .inv .1)
+
+pub flag-spec : {M : Type 1} → statement M
+flag-spec =
+    tie.close
+    (tie.spec
+    Inv-loop
+    μ-loop
+    loop-holds
+    mul-index-of
+    shared-slice-read-index-of
+    index-of-requires
+    mul-grid
+    slice-write-grid
+    add-j
+    loop-less
+    loop-again
+    same-length
+    returns)

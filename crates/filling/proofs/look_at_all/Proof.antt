@@ -1,0 +1,75 @@
+-- `filling::look_at_all` meets its contract. The invariant: the cells before `at` are looked at.
+-- Assumes nothing.
+use Prim.Native.Nat.{_-_, _*_}
+use native.Mathlib.Nat.{mul-le-mul}
+use native.Mathlib.Omega.{arith}
+use borrow.Author.Needs.{needs}
+use Rattle.ground.specs.Grid.{gridOf}
+use Rattle.filling.specs.Filling.{Looked}
+use Rattle.filling.proofs.Kept.{fillable-kept}
+use Rattle.filling.proofs.Scans.{Scan, scan-begin, scan-row, scan-here, scan-on, scan-end}
+use Rattle.filling.proofs.look_at_all.Statement.{statement}
+use Rattle.filling.proofs.look_at_all.Tie as tie
+
+abbrev Inv-loop : tie.InvT-loop
+Inv-loop rows cols codes outlets grid₀ n p₀ at₀ grid p at =
+    Scan (Looked (gridOf rows cols codes) outlets) rows cols grid₀ grid (p .row) (p .col) at
+
+abbrev μ-loop : tie.MeasureT-loop
+μ-loop rows cols codes outlets grid₀ n p₀ at₀ grid p at = rows * cols - at
+
+mul-n : tie.Need-mul-n Inv-loop μ-loop
+mul-n c = let s = c .before .before .before in omega (arith, mul-le-mul (s .pre .0 .rows-small) (s .pre .0 .cols-small))
+
+loop-holds : tie.Need-loop-holds Inv-loop μ-loop
+loop-holds c = let s = c .before .before .before in scan-begin (s .pre .0 .some-cols) (s .pre .1)
+
+look-at-requires : tie.Need-look-at-requires Inv-loop μ-loop
+look-at-requires c κs =
+    let v = c .before .before .loop .inv in (
+      fillable-kept (v .kept) (c .before .before .before .before .before .before .pre .0),
+      (scan-row v (c .before .loop-test .taken), v .col-in, scan-here v),
+    )
+
+next-requires : tie.Need-next-requires Inv-loop μ-loop
+next-requires c κs =
+    let s = c .before .before .before .before .before .before .before .before .before in
+    let v = c .before .before .before .before .before .loop .inv in (
+      omega (arith, scan-row v (c .before .before .before .before .loop-test .taken), s .pre .0 .rows-small),
+      v .col-in,
+      s .pre .0 .cols-small,
+    )
+
+add-at : tie.Need-add-at Inv-loop μ-loop
+add-at c = search needs
+
+loop-less : tie.Need-loop-less Inv-loop μ-loop
+loop-less c = omega (arith, c .before .before .before .before .before .loop-test .taken)
+
+loop-again : tie.Need-loop-again Inv-loop μ-loop
+loop-again c =
+    let t = c .before .before .before .look-at .ensures in
+    scan-on (c .before .before .before .before .before .before .loop .inv)
+    (c .before .before .before .before .before .loop-test .taken) (c .next .ensures) (t .0) (t .1)
+
+same-length : tie.Need-same-length Inv-loop μ-loop
+same-length c = c .before .loop .inv .kept .same-length
+
+returns : tie.Need-returns Inv-loop μ-loop
+returns c = let v = c .before .loop .inv in (scan-end v (c .loop-test .left), v .kept)
+
+pub look-at-all-spec : {M : Type 1} → statement M
+look-at-all-spec =
+    tie.close
+    (tie.spec
+    Inv-loop
+    μ-loop
+    mul-n
+    loop-holds
+    look-at-requires
+    next-requires
+    add-at
+    loop-less
+    loop-again
+    same-length
+    returns)
