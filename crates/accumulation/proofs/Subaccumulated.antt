@@ -3,7 +3,7 @@
 use mathlib.Core.Path.{_≡_, refl, sym, ap, _∙_}
 use mathlib.Core.Bool.{Bool, true, false}
 use mathlib.Core.Logic.{inl}
-use mathlib.Core.List.{List, [], _∷_}
+use mathlib.Core.List.{List, [], _∷_, _++_}
 use Prim.Native.Nat.{ℕ}
 use native.Mathlib.Omega.{arith}
 use lib.ListN.{length}
@@ -44,9 +44,10 @@ module _ (rows cols : ℕ) (codes a outlets sub : List ℕ) where
       × (sub ≡ subaccumulateLeaves rows cols codes a outlets sub)
   refused {number} is f = let e = is ∙ number-is in (e, leaves-it number (sym e) f)
 
-  module _ (passes : firstFailed before ≡ 0) where
-    good : Listed land a outlets
-    good = listed rows cols codes a (length codes ∷ length a ∷ length sub ∷ []) outlets [] 0 (inl (omega arith)) passes
+  -- these checks pass, whatever is checked after them
+  module _ (rest : List Check) (passes : firstFailed (before ++ rest) ≡ 0) where
+    pub good : Listed land a outlets
+    good = listed rows cols codes a (length codes ∷ length a ∷ length sub ∷ []) outlets rest 0 (inl (omega arith)) passes
 
     pub fillable : Fillable rows cols codes outlets sub
     fillable =
@@ -60,13 +61,15 @@ module _ (rows cols : ℕ) (codes a outlets sub : List ℕ) where
           on-ground = good .at-ground;
         }
 
-    -- FILLED
-    pub filled : (b : Bool) {exit : List ℕ} → b ≡ cutFree land outlets → exit ≡ filledIf land outlets b sub
-        → (0 ≡ subaccumulateNumber rows cols codes a outlets sub)
-        × (exit ≡ subaccumulateLeaves rows cols codes a outlets sub)
-    filled b {exit} told e =
-        let n = sym number-is ∙ passes in (
-          sym n,
-          e ∙ ap (λ (t : Bool). filledIf land outlets t sub) (told ∙ agrees-cut-free land outlets a (good .agreement))
-              ∙ leaves-0 n,
-        )
+    -- filling succeeds
+    pub filled-sub : (b : Bool) {exit : List ℕ} → b ≡ cutFree land outlets → exit ≡ filledIf land outlets b sub
+        → exit ≡ filledIf land outlets true sub
+    filled-sub b told e =
+        e ∙ ap (λ (t : Bool). filledIf land outlets t sub) (told ∙ agrees-cut-free land outlets a (good .agreement))
+
+  -- FILLED
+  pub filled : firstFailed before ≡ 0 → (b : Bool) {exit : List ℕ} → b ≡ cutFree land outlets
+      → exit ≡ filledIf land outlets b sub
+      → (0 ≡ subaccumulateNumber rows cols codes a outlets sub)
+      × (exit ≡ subaccumulateLeaves rows cols codes a outlets sub)
+  filled passes b told e = let n = sym number-is ∙ passes in (sym n, filled-sub [] passes b told e ∙ leaves-0 n)

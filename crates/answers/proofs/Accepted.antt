@@ -61,7 +61,8 @@ all-at f [] h i l = absurd (omega arith)
 all-at f (x ∷ xs) h zero l = and-both (f x) (allPass f xs) h .0
 all-at f (x ∷ xs) h (suc i) l = all-at f xs (and-both (f x) (allPass f xs) h .1) i (omega arith)
 
-member-at : (xs : List ℕ) (i : ℕ) → i < length xs → member (getD xs i 0) xs ≡ true
+-- an element of a list stands in it
+pub member-at : (xs : List ℕ) (i : ℕ) → i < length xs → member (getD xs i 0) xs ≡ true
 member-at [] i l = absurd (omega arith)
 member-at (x ∷ xs) zero l = rw (eq-eqb x x refl)
 member-at (x ∷ xs) (suc i) l = rw (member-at xs i (omega arith)) (or-true (eqb x (getD xs i 0)))

@@ -6,15 +6,15 @@ use mathlib.Core.List.{List, [], _∷_, _++_}
 use Prim.Native.Nat.{ℕ, _*_, _≤_, _<_}
 use lib.ListN.{length, getD}
 use lib.Dec.{leb}
-use borrow.Author.Tests.{le-leb, lt-leb}
+use borrow.Author.Tests.{le-leb, lt-leb, lt-ltb, le-ltb}
 use Rattle.ground.specs.Lists.{allBelow}
 use Rattle.ground.specs.Grid.{gridOf}
 use Rattle.ground.specs.Accumulation.{agrees}
 use Rattle.answers.specs.Checks.{Check, firstFailed, allPass, isSide, isCode, different}
-use Rattle.answers.specs.Checks.{check10, check11, check12, check14, check15, check16, check17}
+use Rattle.answers.specs.Checks.{check10, check11, check12, check14, check15, check16, check17, check18}
 use Rattle.answers.specs.Entries.{gridChecks, outletChecks}
 use Rattle.checks.specs.Lent.{isPlaced}
-use Rattle.checks.proofs.Passed.{beyond-grid, beyond-agreed}
+use Rattle.checks.proofs.Passed.{beyond-grid, beyond-agreed, beyond-outlets}
 
 module _ (rows cols : ℕ) (codes : List ℕ) (second third : ℕ) where
   abbrev gridNumber : ℕ
@@ -96,3 +96,21 @@ module _ (rows cols : ℕ) (codes a lent : List ℕ) where
           unfolding firstFailed check15 check16 check17
           outlets-pass e =
               sym (beyond ∙ rw (le-leb 1 (length outlets) h, le-leb (length outlets) 256 i, p, e))
+
+-- after 17
+module _ (rows cols : ℕ) (codes a lent outlets : List ℕ) (place : ℕ) where
+  abbrev chosenNumber : ℕ
+  chosenNumber = firstFailed (outletChecks rows cols codes a lent outlets ++ (check18 outlets place ∷ []))
+
+  module _ (z : firstFailed (outletChecks rows cols codes a lent outlets) ≡ 0) where
+    pub beyond-list : length outlets ≤ place → 18 ≡ chosenNumber
+    unfolding firstFailed check18
+    beyond-list h =
+        sym (beyond-outlets rows cols codes a lent outlets (check18 outlets place ∷ []) z
+        ∙ rw (le-ltb place (length outlets) h))
+
+    pub chosen-passes : place < length outlets → 0 ≡ chosenNumber
+    unfolding firstFailed check18
+    chosen-passes h =
+        sym (beyond-outlets rows cols codes a lent outlets (check18 outlets place ∷ []) z
+        ∙ rw (lt-ltb place (length outlets) h))

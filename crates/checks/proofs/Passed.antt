@@ -8,12 +8,12 @@ use Prim.Native.Nat.{ℕ, zero, suc, _*_, _≤_, _<_}
 use native.Mathlib.Omega.{arith}
 use lib.ListN.{length, getD}
 use lib.Dec.{ltb, leb}
-use borrow.Author.Tests.{leb-true}
+use borrow.Author.Tests.{leb-true, ltb-true}
 use Rattle.ground.specs.Lists.{Every}
 use Rattle.ground.specs.Grid.{Grid, gridOf, places, ground}
 use Rattle.ground.specs.Accumulation.{agrees}
 use Rattle.answers.specs.Checks.{Check, firstFailed, allPass, isSide, different}
-use Rattle.answers.specs.Checks.{check10, check11, check12, check14, check15, check16, check17}
+use Rattle.answers.specs.Checks.{check10, check11, check12, check14, check15, check16, check17, check18}
 use Rattle.answers.specs.Entries.{gridChecks, outletChecks}
 use Rattle.answers.proofs.Accepted.{all-passed}
 use Rattle.checks.specs.Lent.{Lent, isPlaced}
@@ -211,6 +211,27 @@ module _ (rows cols : ℕ) (codes a lent : List ℕ) where
     beyond-outlets ds e =
         goes-on (outletChecks rows cols codes a lent outlets) ds
         (apart 17 0 (inl (omega arith)) (outletChecks rows cols codes a lent outlets) refl) e
+
+    module _ (place : ℕ) where
+      abbrev pub chosenChecks : List Check
+      chosenChecks = outletChecks rows cols codes a lent outlets ++ (check18 outlets place ∷ [])
+
+      -- what follows 18
+      pub beyond-chosen : (ds : List Check) → firstFailed chosenChecks ≡ 0
+          → firstFailed (chosenChecks ++ ds) ≡ firstFailed ds
+      unfolding within check10 check11 check12 check14 check15 check16 check17 check18
+      beyond-chosen ds e = goes-on chosenChecks ds (apart 18 0 (inl (omega arith)) chosenChecks refl) e
+
+      -- and 10 to 18 give no number beyond
+      pub chosen-at-most : (n : ℕ) → 18 < n → firstFailed chosenChecks ≡ n → ⊥
+      unfolding within check10 check11 check12 check14 check15 check16 check17 check18
+      chosen-at-most n h = never n (λ e. absurd (omega (arith, h, e))) chosenChecks (apart 18 n (inr h) chosenChecks refl)
+
+      -- the place asked for is one of the list
+      pub in-list : firstFailed chosenChecks ≡ 0 → place < length outlets
+      unfolding within check10 check11 check12 check14 check15 check16 check17 check18
+      in-list e = ltb-true place (length outlets)
+          (passed 18 0 chosenChecks [] refl (inl (omega arith)) e .1 .1 .1 .1 .1 .1 .1 .0)
 
     -- THE OUTLETS, where the number is none of 10 to 17
     pub listed : (rest : List Check) (n : ℕ) → (n < 10) ⊎ (17 < n)

@@ -1,4 +1,4 @@
-// The checks 10 to 17 of the grid entries. The answer is the number of the first that fails, and 0 if none does.
+// The checks 10 to 18 of the grid entries. The answer is the number of the first that fails, and 0 if none does.
 use ground::Place;
 use ground::index_of;
 use ground::inflows_of;
@@ -12,7 +12,7 @@ ghost use Rattle.ground.specs.Lists.{member, allBelow};
 ghost use Rattle.ground.specs.Grid.{gridOf};
 ghost use Rattle.ground.specs.Moves.{HasCell};
 ghost use Rattle.ground.specs.Accumulation.{balance, agrees};
-ghost use Rattle.answers.specs.Checks.{firstFailed, allPass, isSide, isCode, check14, different};
+ghost use Rattle.answers.specs.Checks.{firstFailed, allPass, isSide, isCode, check14, check18, different};
 ghost use Rattle.answers.specs.Entries.{gridChecks, outletChecks};
 ghost use Rattle.checks.specs.Lent.{Lent, isPlaced};
 
@@ -232,6 +232,33 @@ pub fn outlets_number(
     }
     if !all_different(outlets) {
         return 17;
+    }
+    0
+}
+
+// 10, 11, 12, 14 to 18. The place asked for, counted from 0, is one of the list. The length of the third lent grid is
+// given.
+pub fn chosen_number(
+    rows: usize,
+    cols: usize,
+    codes: &[u8],
+    accumulation: &[u32],
+    outlets: &[u32],
+    place: usize,
+    third: usize,
+) -> u32
+    ensures { λ r. ⌜ r
+        ≡ firstFailed (outletChecks rows cols (now (codes .entry)) (now (accumulation .entry))
+        (length (now (codes .entry)) ∷ length (now (accumulation .entry)) ∷ third ∷ [])
+        (now (outlets .entry))
+        ++ (check18 (now (outlets .entry)) place ∷ [])) ⌝ }
+{
+    let number = outlets_number(rows, cols, codes, accumulation, outlets, third);
+    if number != 0 {
+        return number;
+    }
+    if outlets.len() <= place {
+        return 18;
     }
     0
 }

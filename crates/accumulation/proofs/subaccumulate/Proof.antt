@@ -1,7 +1,7 @@
 -- `accumulation::subaccumulate` meets its contract.
 -- Assumes nothing.
 use mathlib.Core.Path.{_≡_, sym, _∙_}
-use mathlib.Core.List.{List}
+use mathlib.Core.List.{[]}
 use borrow.Author.Needs.{needs}
 use Rattle.answers.specs.Checks.{firstFailed}
 use Rattle.accumulation.proofs.Subaccumulated.{before, refused, fillable, filled}
@@ -21,7 +21,7 @@ fill-requires : tie.Need-fill-requires
 fill-requires c κs =
     let e = c .before in
     let a = c .before .before .before .before .before .before .before .args in
-    fillable (a .rows) (a .cols) (a .codes .now) (a .accumulation .now) (a .outlets .now) (a .subaccumulation .now)
+    fillable (a .rows) (a .cols) (a .codes .now) (a .accumulation .now) (a .outlets .now) (a .subaccumulation .now) []
     (sym (e .before .outlets-number .ensures) ∙ e .if1 .left)
 
 same-length : tie.Need-same-length

@@ -1,0 +1,6 @@
+pub mod Listing
+pub mod Telling
+pub mod Searching
+pub mod Answering
+pub mod Filled
+pub mod Recursion

@@ -1,0 +1,173 @@
+// Tracing all longest paths to an outlet of a list.
+use answers::Answer;
+use answers::Traced;
+use checks::chosen_number;
+use filling::fill;
+use ground::index_of;
+use progress::Progress;
+ghost use mathlib.Core.Path.{_≡_};
+ghost use mathlib.Core.List.{[]};
+ghost use mathlib.Core.Logic.{_⊎_};
+ghost use Prim.Native.Nat.{_≤_};
+ghost use lib.ListN.{length, getD};
+ghost use Rattle.ground.specs.Grid.{gridOf};
+ghost use Rattle.ground.specs.Accumulation.{subaccumulation};
+ghost use Rattle.search.specs.Tracing.{tracing};
+ghost use Rattle.progress.specs.Starts.{kept};
+ghost use Rattle.answers.specs.Entries.{overlaid};
+ghost use Rattle.answers.specs.Tracings.{recursionNumber, recursionAnswer, traceLeavesSub, traceLeavesStarts};
+ghost use Rattle.upstream.specs.Ready.{Ready};
+ghost use Rattle.tracing.specs.Chosen.{Chosen};
+ghost use Rattle.tracing.specs.Telling.{refusedWith, tracingOf, toldWith};
+
+// Refused before the search.
+fn refused(number: u32) -> Traced
+    ensures { λ r. ⌜ r ≡ refusedWith number ⌝ }
+{
+    Traced {
+        visited: 0,
+        dropped: 0,
+        answer: Answer::Refused { number },
+    }
+}
+
+// What a search tells where the list has so many places.
+fn told(p: Progress, places: usize) -> Traced
+    ensures { λ r. ⌜ r ≡ toldWith (tracingOf p []) places ⌝ }
+{
+    let paths = p.paths;
+    if places < index_of(paths) {
+        return Traced {
+            visited: p.visited,
+            dropped: p.dropped,
+            answer: Answer::NoPlace { paths },
+        };
+    }
+    Traced {
+        visited: p.visited,
+        dropped: p.dropped,
+        answer: Answer::Found {
+            straight: p.greatest.straight,
+            diagonal: p.greatest.diagonal,
+            paths,
+        },
+    }
+}
+
+// The lesser of two numbers.
+fn least(a: usize, b: usize) -> usize
+    ensures { λ r. ⌜ (r ≤ a) × (r ≤ b) × ((r ≡ a) ⊎ (r ≡ b)) ⌝ }
+{
+    if b < a {
+        return b;
+    }
+    a
+}
+
+// Writes the starts that stand before an end to the list, the first first, as many as it has places for.
+fn list_starts(found: &[u32], end: usize, paths: u32, starts: &mut [u32])
+    requires { ⌜ (paths ≤ end) × (end ≤ length (now found)) ⌝ }
+    ensures { λ _. ⌜ now (starts .exit) ≡ overlaid (kept (now (found .entry)) end paths) (now (starts .entry)) ⌝ }
+{
+    let n = least(index_of(paths), starts.len());
+    let mut k: usize = 0;
+    while k < n {
+        starts[k] = found[end - 1 - k];
+        k += 1;
+    }
+}
+
+// Traces an outlet by recursion, in a grid that holds the subaccumulation. The starts wait in an array, since those of a
+// length that is exceeded later must not be seen in the list.
+fn by_recursion(
+    rows: usize,
+    cols: usize,
+    codes: &[u8],
+    outlets: &[u32],
+    subs: &[u32],
+    dropping: bool,
+    place: usize,
+    starts: &mut [u32],
+) -> Traced
+    requires { ⌜ Ready rows cols (now codes) (now outlets) (now subs) ⌝ }
+    requires { ⌜ Chosen rows cols (now codes) (now outlets) place ⌝ }
+    requires { ⌜ subaccumulation (gridOf rows cols (now codes)) (now outlets) (getD (now outlets) place 0) ≤ 4096 ⌝ }
+    ensures tells { λ r. ⌜ r
+        ≡ toldWith (tracing dropping (gridOf rows cols (now (codes .entry))) (now (outlets .entry))
+        (getD (now (outlets .entry)) place 0)) (length (now (starts .entry))) ⌝ }
+    ensures lists { λ _. ⌜ now (starts .exit)
+        ≡ overlaid (tracing dropping (gridOf rows cols (now (codes .entry))) (now (outlets .entry))
+        (getD (now (outlets .entry)) place 0) .starts) (now (starts .entry)) ⌝ }
+{
+    let at = index_of(outlets[place]);
+    let mut found = [0u32; 4096];
+    let p = recursion::trace(
+        rows,
+        cols,
+        codes,
+        outlets,
+        subs,
+        dropping,
+        at / cols,
+        at % cols,
+        &mut found,
+    );
+    list_starts(&found, 4096, p.paths, starts);
+    told(p, starts.len())
+}
+
+// Traces all longest paths to an outlet of the list, with or without dropping, by recursion: 10, 11, 12, 14 to 19, 21. The
+// grid is filled once 18 is past.
+pub fn trace_by_recursion(
+    rows: usize,
+    cols: usize,
+    codes: &[u8],
+    accumulation: &[u32],
+    outlets: &[u32],
+    place: usize,
+    dropping: bool,
+    subaccumulation: &mut [u32],
+    starts: &mut [u32],
+) -> Traced
+    ensures answers { λ r. ⌜ r
+        ≡ recursionAnswer dropping rows cols (now (codes .entry)) (now (accumulation .entry)) (now (outlets .entry)) place
+        (now (subaccumulation .entry)) (now (starts .entry)) ⌝ }
+    ensures fills { λ _. ⌜ now (subaccumulation .exit)
+        ≡ traceLeavesSub dropping rows cols (now (codes .entry)) (now (accumulation .entry)) (now (outlets .entry)) place
+        (now (subaccumulation .entry)) (now (starts .entry))
+        (recursionNumber dropping rows cols (now (codes .entry)) (now (accumulation .entry)) (now (outlets .entry)) place
+        (now (subaccumulation .entry)) (now (starts .entry))) ⌝ }
+    ensures lists { λ _. ⌜ now (starts .exit)
+        ≡ traceLeavesStarts dropping rows cols (now (codes .entry)) (now (accumulation .entry)) (now (outlets .entry)) place
+        (now (subaccumulation .entry)) (now (starts .entry))
+        (recursionNumber dropping rows cols (now (codes .entry)) (now (accumulation .entry)) (now (outlets .entry)) place
+        (now (subaccumulation .entry)) (now (starts .entry))) ⌝ }
+{
+    let number = chosen_number(
+        rows,
+        cols,
+        codes,
+        accumulation,
+        outlets,
+        place,
+        subaccumulation.len(),
+    );
+    if number != 0 {
+        return refused(number);
+    }
+    fill(rows, cols, codes, outlets, subaccumulation);
+    let at = index_of(outlets[place]);
+    if 4096 < subaccumulation[at] {
+        return refused(19);
+    }
+    by_recursion(
+        rows,
+        cols,
+        codes,
+        outlets,
+        subaccumulation,
+        dropping,
+        place,
+        starts,
+    )
+}
