@@ -1,17 +1,17 @@
 -- The front of a lent list, which is filled, and the rest, which is kept.
 -- Assumes nothing.
-use mathlib.Core.Path.{_≡_, sym, ap, _∙_}
+use mathlib.Core.Path.{_≡_, sym, ap, _∙_, subst}
 use mathlib.Core.Bool.{true}
 use mathlib.Core.List.{List, _++_}
 use Prim.Native.Nat.{ℕ, _+_, _-_, _≤_, _<_}
 use native.Mathlib.Omega.{arith}
 use native.Mathlib.Decide.{decLt}
-use lib.ListN.{length, getD, drop, length-append, length-drop, List·getD-append}
+use lib.ListN.{length, getD, drop, length-append, length-drop, length-replicate, getD-replicate, List·getD-append}
 use lib.Seq.{ext-getD, getD-append-add, getD-drop, take-all}
 use Rattle.ground.specs.Grid.{Grid, places}
 use Rattle.ground.specs.Accumulation.{subaccumulation, subaccumulations}
 use Rattle.ground.proofs.Ground.{grid-length, grid-at}
-use Rattle.answers.specs.Entries.{overlaid}
+use Rattle.answers.specs.Entries.{overlaid, zeros}
 use Rattle.filling.specs.Filling.{Kept, filledIf}
 
 -- where there is room for all of them, the new numbers stand whole before the rest of the old
@@ -36,6 +36,16 @@ front-is xs {old} {new} r k w = ext-getD 0 new (xs ++ drop (length xs) old)
         k .rest i a ∙ ap (λ (j : ℕ). getD old j 0) e ∙ sym (getD-drop (length xs) old (i - length xs) 0)
         ∙ sym (getD-append-add xs (drop (length xs) old) (i - length xs) 0)
         ∙ ap (λ (j : ℕ). getD (xs ++ drop (length xs) old) j 0) (sym e)
+
+-- or zeros
+pub cleared-front : (n : ℕ) {old new : List ℕ} → n ≤ length old → Kept n old new
+    → ((x : ℕ) → x < n → getD new x 0 ≡ 0) → new ≡ overlaid (zeros n) old
+cleared-front n {old} {new} r k z = front-is (zeros n) (omega (arith, r, long))
+    (subst (λ (m : ℕ). Kept m old new) (sym long) k)
+    (λ x h. let i : x < n = omega (arith, h, long) in z x i ∙ sym (getD-replicate n x 0 0 i))
+  where
+    long : length (zeros n) ≡ n
+    long = length-replicate n 0
 
 -- what is filled where there is room: the list, and the number at a cell
 module _ (g : Grid) (outlets old : List ℕ) (room : places g ≤ length old) where

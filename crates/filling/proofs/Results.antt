@@ -6,7 +6,7 @@ use mathlib.Core.List.{List, [], _∷_}
 use Prim.Native.Nat.{ℕ, suc, _+_, _-_, _*_, _%_, _≤_, _<_, _^_}
 use native.Mathlib.Nat.{mul-le-mul}
 use native.Mathlib.Omega.{arith}
-use lib.ListN.{length, getD, length-replicate, getD-replicate}
+use lib.ListN.{length, getD}
 use lib.Seq.{take-length}
 use lib.Dec.{eqb}
 use borrow.Author.Tests.{eqb-true}
@@ -19,7 +19,6 @@ use Rattle.ground.proofs.Lists.{all-below, below-all}
 use Rattle.ground.proofs.Walks.{ends-none}
 use Rattle.ground.proofs.Cells.{ground-within, ground-sub, null-sub}
 use Rattle.ground.proofs.Ground.{grid-length, grid-at}
-use Rattle.answers.specs.Entries.{zeros}
 use Rattle.filling.specs.Packed.{waiting}
 use Rattle.filling.specs.Filling.{
   Fillable,
@@ -47,7 +46,7 @@ use Rattle.filling.proofs.Flags.{flag-mod, cut-network, cut-null}
 use Rattle.filling.proofs.Descents.{word-bounds}
 use Rattle.filling.proofs.Sweeps.{waits-not, settled-less}
 use Rattle.filling.proofs.Kept.{kept-then}
-use Rattle.filling.proofs.Fronts.{front-is}
+use Rattle.filling.proofs.Fronts.{front-is, cleared-front}
 
 member-in : (P : ℕ → Type 0) (xs : List ℕ) → ((j : ℕ) → j < length xs → P (getD xs j 0)) → (x : ℕ)
     → member x xs ≡ true → P x
@@ -179,10 +178,5 @@ module _ {rows cols : ℕ} {codes outlets l : List ℕ} (f : Fillable rows cols 
 
   pub cleared-filled : {old m : List ℕ} → Kept (rows * cols) old l → Cleared (rows * cols) (rows * cols) l m
       → m ≡ filledIf (gridOf rows cols codes) outlets false old
-  cleared-filled {old} {m} k c = front-is (zeros (rows * cols)) (omega (arith, long, k .same-length, f .has-grid))
-      (subst (λ (n : ℕ). Kept n old m) (sym long) (kept-then k (c .kept)))
-      (λ x h. let i : x < rows * cols = omega (arith, long) in
-      c .are-zero x i ∙ sym (getD-replicate (rows * cols) x 0 0 i))
-    where
-      long : length (zeros (rows * cols)) ≡ rows * cols
-      long = length-replicate (rows * cols) 0
+  cleared-filled k c = cleared-front (rows * cols) (omega (arith, k .same-length, f .has-grid)) (kept-then k (c .kept))
+      (c .are-zero)

@@ -206,7 +206,7 @@ fn look_at_all(rows: usize, cols: usize, codes: &[u8], outlets: &[u32], grid: &m
 }
 
 // Clears the first n places.
-fn clear(n: usize, grid: &mut [u32])
+pub fn clear(n: usize, grid: &mut [u32])
     requires { ⌜ n ≤ length (now grid) ⌝ }
     ensures { λ _. ⌜ Cleared n n (now (grid .entry)) (now (grid .exit)) ⌝ }
 {

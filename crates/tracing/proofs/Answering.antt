@@ -75,8 +75,8 @@ module _ (dropping : Bool) (rows cols : ℕ) (codes a outlets : List ℕ) (place
     number = firstFailed (choosing ++ (last ∷ check21 t starts ∷ []))
 
     -- REFUSED BY 10 TO 18
-    pub refused-early : {n : ℕ} → n ≡ firstFailed choosing → (n ≡ 0 → ⊥) → Outcome number (refusedWith n) sub starts
-    refused-early {n} is z = rw (sym (handed-on choosing (last ∷ check21 t starts ∷ []) is z)) (at-first n z small)
+    pub early : {n : ℕ} → n ≡ firstFailed choosing → (n ≡ 0 → ⊥) → (number ≡ n) × (n < 19)
+    early {n} is z = (sym (handed-on choosing (last ∷ check21 t starts ∷ []) is z), small)
       where
         small : n < 19
         small = elim (decLt n 19) [
@@ -84,9 +84,12 @@ module _ (dropping : Bool) (rows cols : ℕ) (codes a outlets : List ℕ) (place
           | no h ↦ absurd (chosen-at-most rows cols codes a _ outlets place n (omega (arith, h)) (sym is))
         ]
 
+    pub refused-early : {n : ℕ} → n ≡ firstFailed choosing → (n ≡ 0 → ⊥) → Outcome number (refusedWith n) sub starts
+    refused-early {n} is z = let e = early is z in rw (e .0) (at-first n z (e .1))
+
     module _ (passes : firstFailed choosing ≡ 0) where
       -- BY 19 OR 20
-      late : last .passes ≡ false → number ≡ last .number
+      pub late : last .passes ≡ false → number ≡ last .number
       unfolding firstFailed
       late e = beyond-chosen rows cols codes a _ outlets place (last ∷ check21 t starts ∷ []) passes ∙ rw e
 
@@ -95,7 +98,7 @@ module _ (dropping : Bool) (rows cols : ℕ) (codes a outlets : List ℕ) (place
       refused-late e i = rw (late e) (at-last (last .number) i)
 
       -- OR TOLD BY THE SEARCH
-      whole : last .passes ≡ true → number ≡ cond (leb (t .paths) (length starts)) 0 21
+      pub whole : last .passes ≡ true → number ≡ cond (leb (t .paths) (length starts)) 0 21
       unfolding firstFailed check21
       whole e = beyond-chosen rows cols codes a _ outlets place (last ∷ check21 t starts ∷ []) passes ∙ rw e
 

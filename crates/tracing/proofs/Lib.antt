@@ -4,3 +4,4 @@ pub mod Searching
 pub mod Answering
 pub mod Filled
 pub mod Recursion
+pub mod Stack

@@ -54,6 +54,12 @@ module _ {rows cols : ℕ} {codes outlets subs : List ℕ} (ready : Ready rows c
   abbrev outlet : ℕ
   outlet = getD outlets place 0
 
+  -- its cells, in the grid
+  pub own-cells : (outlet < length subs) × (getD subs outlet 0 ≡ subaccumulation land outlets outlet)
+  own-cells =
+      let i = ground-within land outlet (chosen .solid) in
+      (omega (arith, i, ready .has-subs), ready .filled outlet i)
+
   -- its row and its column
   pub row-col : outlet / cols * cols + outlet % cols ≡ outlet
   row-col = div-add-mod' outlet cols

@@ -2,20 +2,22 @@
 use answers::Answer;
 use answers::Traced;
 use checks::chosen_number;
+use filling::clear;
 use filling::fill;
 use ground::index_of;
 use progress::Progress;
 ghost use mathlib.Core.Path.{_≡_};
 ghost use mathlib.Core.List.{[]};
 ghost use mathlib.Core.Logic.{_⊎_};
-ghost use Prim.Native.Nat.{_≤_};
+ghost use Prim.Native.Nat.{_*_, _≤_};
 ghost use lib.ListN.{length, getD};
 ghost use Rattle.ground.specs.Grid.{gridOf};
 ghost use Rattle.ground.specs.Accumulation.{subaccumulation};
 ghost use Rattle.search.specs.Tracing.{tracing};
 ghost use Rattle.progress.specs.Starts.{kept};
-ghost use Rattle.answers.specs.Entries.{overlaid};
+ghost use Rattle.answers.specs.Entries.{overlaid, zeros};
 ghost use Rattle.answers.specs.Tracings.{recursionNumber, recursionAnswer, traceLeavesSub, traceLeavesStarts};
+ghost use Rattle.answers.specs.Tracings.{stackNumber, stackAnswer, traceLeavesWork};
 ghost use Rattle.upstream.specs.Ready.{Ready};
 ghost use Rattle.tracing.specs.Chosen.{Chosen};
 ghost use Rattle.tracing.specs.Telling.{refusedWith, tracingOf, toldWith};
@@ -116,6 +118,51 @@ fn by_recursion(
     told(p, starts.len())
 }
 
+// Traces an outlet from pending cells, in a grid that holds the subaccumulation. The starts wait at the end of the working
+// numbers, which are then cleared.
+fn by_stack(
+    rows: usize,
+    cols: usize,
+    codes: &[u8],
+    outlets: &[u32],
+    subs: &[u32],
+    dropping: bool,
+    place: usize,
+    starts: &mut [u32],
+    work: &mut [u32],
+) -> Traced
+    requires { ⌜ Ready rows cols (now codes) (now outlets) (now subs) ⌝ }
+    requires { ⌜ Chosen rows cols (now codes) (now outlets) place ⌝ }
+    requires { ⌜ 3 * subaccumulation (gridOf rows cols (now codes)) (now outlets) (getD (now outlets) place 0)
+        ≤ length (now work) ⌝ }
+    ensures tells { λ r. ⌜ r
+        ≡ toldWith (tracing dropping (gridOf rows cols (now (codes .entry))) (now (outlets .entry))
+        (getD (now (outlets .entry)) place 0)) (length (now (starts .entry))) ⌝ }
+    ensures lists { λ _. ⌜ now (starts .exit)
+        ≡ overlaid (tracing dropping (gridOf rows cols (now (codes .entry))) (now (outlets .entry))
+        (getD (now (outlets .entry)) place 0) .starts) (now (starts .entry)) ⌝ }
+    ensures clears { λ _. ⌜ now (work .exit)
+        ≡ overlaid (zeros (3 * subaccumulation (gridOf rows cols (now (codes .entry))) (now (outlets .entry))
+        (getD (now (outlets .entry)) place 0))) (now (work .entry)) ⌝ }
+{
+    let at = index_of(outlets[place]);
+    let end = 3 * index_of(subs[at]);
+    let p = stack::trace(
+        rows,
+        cols,
+        codes,
+        outlets,
+        subs,
+        dropping,
+        at / cols,
+        at % cols,
+        work,
+    );
+    list_starts(work, end, p.paths, starts);
+    clear(end, work);
+    told(p, starts.len())
+}
+
 // Traces all longest paths to an outlet of the list, with or without dropping, by recursion: 10, 11, 12, 14 to 19, 21. The
 // grid is filled once 18 is past.
 pub fn trace_by_recursion(
@@ -169,5 +216,69 @@ pub fn trace_by_recursion(
         dropping,
         place,
         starts,
+    )
+}
+
+// The same from pending cells, in lent working space: 10, 11, 12, 14 to 18, 20, 21.
+pub fn trace_by_stack(
+    rows: usize,
+    cols: usize,
+    codes: &[u8],
+    accumulation: &[u32],
+    outlets: &[u32],
+    place: usize,
+    dropping: bool,
+    subaccumulation: &mut [u32],
+    starts: &mut [u32],
+    work: &mut [u32],
+) -> Traced
+    ensures answers { λ r. ⌜ r
+        ≡ stackAnswer dropping rows cols (now (codes .entry)) (now (accumulation .entry)) (now (outlets .entry)) place
+        (now (subaccumulation .entry)) (now (starts .entry)) (now (work .entry)) ⌝ }
+    ensures fills { λ _. ⌜ now (subaccumulation .exit)
+        ≡ traceLeavesSub dropping rows cols (now (codes .entry)) (now (accumulation .entry)) (now (outlets .entry)) place
+        (now (subaccumulation .entry)) (now (starts .entry))
+        (stackNumber dropping rows cols (now (codes .entry)) (now (accumulation .entry)) (now (outlets .entry)) place
+        (now (subaccumulation .entry)) (now (starts .entry)) (now (work .entry))) ⌝ }
+    ensures lists { λ _. ⌜ now (starts .exit)
+        ≡ traceLeavesStarts dropping rows cols (now (codes .entry)) (now (accumulation .entry)) (now (outlets .entry)) place
+        (now (subaccumulation .entry)) (now (starts .entry))
+        (stackNumber dropping rows cols (now (codes .entry)) (now (accumulation .entry)) (now (outlets .entry)) place
+        (now (subaccumulation .entry)) (now (starts .entry)) (now (work .entry))) ⌝ }
+    ensures clears { λ _. ⌜ now (work .exit)
+        ≡ traceLeavesWork dropping rows cols (now (codes .entry)) (now (accumulation .entry)) (now (outlets .entry)) place
+        (now (subaccumulation .entry)) (now (starts .entry))
+        (stackNumber dropping rows cols (now (codes .entry)) (now (accumulation .entry)) (now (outlets .entry)) place
+        (now (subaccumulation .entry)) (now (starts .entry)) (now (work .entry)))
+        (now (work .entry)) ⌝ }
+{
+    let number = chosen_number(
+        rows,
+        cols,
+        codes,
+        accumulation,
+        outlets,
+        place,
+        subaccumulation.len(),
+    );
+    if number != 0 {
+        return refused(number);
+    }
+    fill(rows, cols, codes, outlets, subaccumulation);
+    let at = index_of(outlets[place]);
+    let cells = index_of(subaccumulation[at]);
+    if work.len() < 3 * cells {
+        return refused(20);
+    }
+    by_stack(
+        rows,
+        cols,
+        codes,
+        outlets,
+        subaccumulation,
+        dropping,
+        place,
+        starts,
+        work,
     )
 }

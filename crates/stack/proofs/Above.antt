@@ -1,0 +1,160 @@
+-- What the search does with the neighbours of a cell is what it does with the cells that they leave pending.
+-- Assumes nothing.
+use mathlib.Core.Path.{_≡_, refl, sym, ap, _∙_}
+use mathlib.Core.Bool.{Bool, true, false}
+use mathlib.Core.List.{List, [], _∷_, _++_}
+use mathlib.Core.Option.{Option, none, some}
+use Prim.Native.Nat.{ℕ, zero, suc, _+_, _*_, _≤_, _<_}
+use native.Mathlib.Nat.{div-add-mod', div-lt-iff-lt-mul, mod-lt}
+use native.Mathlib.Omega.{arith}
+use lib.ListN.{length}
+use Rattle.lengths.specs.declared.Length.{Length}
+use Rattle.lengths.specs.Rule.{plusStep}
+use Rattle.ground.specs.Lists.{Every}
+use Rattle.ground.specs.Compass.{Dir, E, opposite, stepOf, squares}
+use Rattle.ground.specs.Grid.{Grid, ground}
+use Rattle.ground.specs.Accumulation.{agrees, subaccumulation}
+use Rattle.ground.specs.Moves.{leadOf, leadBy}
+use Rattle.ground.proofs.Cells.{ground-within, points-flow}
+use Rattle.ground.proofs.Ground.{sub-size}
+use Rattle.search.specs.Search.{State, firstRule, drops, dropCells}
+use Rattle.search.specs.Neighbours.{inflowIn, cellsIn, turnTo, enter}
+use Rattle.search.proofs.Neighbours.{Found, found-in, found-ground, turn-done, turn-none, turn-drops, turn-enters}
+use Rattle.stack.specs.declared.Pending.{Pending}
+use Rattle.stack.specs.Pending.{pendingOf, inflowsAbove}
+use Rattle.stack.specs.Draining.{stepBy, ownLength, cellOf, cellsPending, Waits, taken, drain}
+
+module _ (g : Grid) (outlets : List ℕ) where
+  abbrev sub : ℕ → ℕ
+  sub x = subaccumulation g outlets x
+
+  pub cells-append : (xs ys : List Pending) → cellsPending g outlets (xs ++ ys)
+      ≡ cellsPending g outlets xs + cellsPending g outlets ys
+  unfolding cellsPending
+  cells-append [] ys = omega arith
+  cells-append (x ∷ xs) ys = omega (arith, cells-append xs ys)
+
+  pub all-append : (end : ℕ) (xs ys : List Pending) → Every (Waits g outlets end) xs → Every (Waits g outlets end) ys
+      → Every (Waits g outlets end) (xs ++ ys)
+  all-append end [] ys a b = b
+  all-append end (x ∷ xs) ys a b = (a .0, all-append end xs ys (a .1) b)
+
+  module _ (dropping : Bool) where
+    pub drain-append : (xs ys : List Pending) (st : State squares) → drain g outlets dropping (xs ++ ys) st
+        ≡ drain g outlets dropping ys (drain g outlets dropping xs st)
+    unfolding drain
+    drain-append [] ys st = refl
+    drain-append (x ∷ xs) ys st = drain-append xs ys (taken g outlets dropping (cellOf g x) (x .below) st)
+
+    module _ (y : ℕ) (below : Length) (st : State squares) where
+      abbrev test : Bool
+      test = drops squares (firstRule squares dropping) (st .starts) below E (sub y)
+
+      pub taken-drops : test ≡ true → taken g outlets dropping y below st ≡ dropCells squares st (sub y)
+      unfolding taken
+      taken-drops e = rw (e, taken)
+
+      pub taken-enters : test ≡ false → taken g outlets dropping y below st
+          ≡ enter squares (firstRule squares dropping) g outlets y (ownLength g y below) st
+      unfolding taken
+      taken-enters e = rw (e, taken)
+
+  module _ (a : List ℕ) (agreed : agrees g a ≡ true) where
+    pub some-cells : (y : ℕ) → ground g y ≡ true → 1 ≤ sub y
+    some-cells y v = omega (arith, sub-size g a agreed outlets y v)
+
+    -- each pending cell has some cells
+    pub few-pending : (end : ℕ) (ws : List Pending) → Every (Waits g outlets end) ws
+        → length ws ≤ cellsPending g outlets ws
+    unfolding cellsPending
+    few-pending end [] h = omega arith
+    few-pending end (w ∷ ws) h = omega (arith, few-pending end ws (h .1), some-cells (cellOf g w) (h .0 .solid))
+
+    module _ (x : ℕ) (len : Length) where
+      abbrev above : List Dir → List Pending
+      above ds = inflowsAbove g outlets x len ds
+
+      -- what the search makes of some neighbours, their cells, and that they wait
+      pub record Follows (ds : List Dir) : Type 0 where
+        pub drains : (dropping : Bool) (st : State squares)
+            → turnTo squares (firstRule squares dropping) g outlets ds x len st
+            ≡ drain g outlets dropping (above ds) st
+        pub cells : cellsPending g outlets (above ds) ≡ cellsIn g outlets ds x
+        pub all-wait : (end : ℕ) → 3 * (len .straight + len .diagonal + cellsIn g outlets ds x) ≤ end
+            → Every (Waits g outlets end) (above ds)
+
+      -- a cell found is dropped or entered as the cell that waits for it
+      module _ (d : Dir) (y : ℕ) (f : Found g outlets x d y) where
+        solid : ground g y ≡ true
+        solid = found-ground g outlets x d y f
+
+        own-step : ownLength g y len ≡ plusStep len (stepOf (opposite d))
+        unfolding leadOf
+        own-step = ap (λ o. plusStep len (stepBy (leadBy o))) (points-flow g (opposite d) y (f .flows))
+
+        turned : (dropping : Bool) (ds : List Dir) (st : State squares)
+            → turnTo squares (firstRule squares dropping) g outlets (d ∷ ds) x len st
+            ≡ turnTo squares (firstRule squares dropping) g outlets ds x len (taken g outlets dropping y len st)
+        turned dropping ds st = by-test (test dropping y len st) refl
+          where
+            by-test : (b : Bool) → test dropping y len st ≡ b
+                → turnTo squares (firstRule squares dropping) g outlets (d ∷ ds) x len st
+                ≡ turnTo squares (firstRule squares dropping) g outlets ds x len (taken g outlets dropping y len st)
+            by-test true e = turn-drops squares (firstRule squares dropping) g outlets x d ds len st a agreed y f e
+                ∙ ap (turnTo squares (firstRule squares dropping) g outlets ds x len)
+                (sym (taken-drops dropping y len st e))
+            by-test false e = turn-enters squares (firstRule squares dropping) g outlets x d ds len st a agreed y f e
+                ∙ ap (turnTo squares (firstRule squares dropping) g outlets ds x len)
+                (sym (taken-enters dropping y len st e
+                ∙ ap (λ (l : Length). enter squares (firstRule squares dropping) g outlets y l st) own-step))
+
+        cell-is : cellOf g (pendingOf (g .cols) len y) ≡ y
+        cell-is = div-add-mod' y (g .cols)
+
+        waits : (end : ℕ) → 3 * (len .straight + len .diagonal + sub y) ≤ end
+            → Waits g outlets end (pendingOf (g .cols) len y)
+        waits end h =
+            let i : y < g .rows * g .cols = ground-within g y solid in
+            let p : 0 < g .cols = positive (g .cols) i in
+            record {
+              row-in = div-lt-iff-lt-mul p .1 i;
+              col-in = mod-lt y p;
+              solid = ap (ground g) cell-is ∙ solid;
+              short = omega (arith, ap sub cell-is);
+            }
+          where
+            positive : (n : ℕ) → y < g .rows * n → 0 < n
+            positive zero h = absurd (omega arith)
+            positive (suc n) h = omega arith
+
+      pub follows : (ds : List Dir) → Follows ds
+      unfolding inflowsAbove cellsPending cellsIn drain
+      follows [] = record {
+        drains = λ dropping st. turn-done squares (firstRule squares dropping) g outlets x len st;
+        cells = refl;
+        all-wait = λ end h. tt;
+      }
+      follows (d ∷ ds) = by-place (inflowIn g outlets x d) refl (follows ds)
+        where
+          by-place : (o : Option ℕ) → inflowIn g outlets x d ≡ o → Follows ds → Follows (d ∷ ds)
+          by-place none e ih = record {
+            drains = λ dropping st. turn-none squares (firstRule squares dropping) g outlets x d ds len st e
+                ∙ ih .drains dropping st ∙ rw e;
+            cells = rw e (omega (arith, ih .cells));
+            all-wait = λ end h. rw e (ih .all-wait end (omega (arith, rw e at h)));
+          }
+          by-place (some y) e ih =
+              let f = found-in g outlets x d y e in
+              let c : sub (cellOf g (pendingOf (g .cols) len y)) ≡ sub y = ap sub (cell-is d y f) in
+              record {
+                drains = λ dropping st. turned d y f dropping ds st
+                    ∙ ih .drains dropping (taken g outlets dropping y len st)
+                    ∙ rw e (ap (λ (z : ℕ). drain g outlets dropping (above ds) (taken g outlets dropping z len st))
+                    (sym (cell-is d y f)));
+                cells = rw e (omega (arith, ih .cells, c));
+                all-wait = λ end h. rw e (
+                  waits d y f end (omega (arith, rw e at h)),
+                  ih .all-wait end
+                      (omega (arith, rw e at h)),
+                );
+              }

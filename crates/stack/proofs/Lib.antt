@@ -1,0 +1,5 @@
+pub mod Putting
+pub mod Above
+pub mod Climbing
+pub mod Entering
+pub mod Turning

@@ -1,0 +1,232 @@
+-- One pending cell is taken off: it is dropped or entered, and the rest of the search is the same.
+-- Assumes nothing.
+use mathlib.Core.Path.{_≡_, refl, sym, ap, _∙_, subst}
+use mathlib.Core.Bool.{Bool, true, false}
+use mathlib.Core.List.{List, _∷_, map}
+use Prim.Native.Nat.{ℕ, _+_, _-_, _*_, _≤_, _<_, _^_}
+use native.Mathlib.Omega.{arith}
+use lib.ListN.{length, getD}
+use lib.Arith.{digits-lt}
+use Rattle.lengths.specs.declared.Step.{Step}
+use Rattle.lengths.specs.declared.Step.the-variants.{Straight, Diagonal}
+use Rattle.lengths.specs.declared.Length.{Length}
+use Rattle.lengths.specs.Rule.{counts, plusStep}
+use Rattle.ground.specs.Lists.{Every}
+use Rattle.ground.specs.Compass.{Dir, E, squares}
+use Rattle.ground.specs.Grid.{Grid, gridOf}
+use Rattle.ground.specs.Accumulation.{subaccumulation}
+use Rattle.ground.specs.Moves.{leadOf}
+use Rattle.ground.specs.Forest.{forest}
+use Rattle.ground.proofs.Cells.{code-inside}
+use Rattle.search.specs.Search.{State, firstRule, drops, dropCells, searchFrom}
+use Rattle.search.specs.Neighbours.{enter}
+use Rattle.search.proofs.Neighbours.{search-enters}
+use Rattle.progress.specs.declared.Progress.{Progress}
+use Rattle.progress.specs.Starts.{kept, begun, startAt, stateOf}
+use Rattle.progress.proofs.Kept.{kept-length}
+use Rattle.upstream.specs.Ready.{Ready, AtOutlet}
+use Rattle.stack.specs.declared.Pending.{Pending}
+use Rattle.stack.specs.declared.Stack.{Stack}
+use Rattle.stack.specs.Pending.{pendingAt, pending}
+use Rattle.stack.specs.Draining.{
+  stepBy,
+  ownLength,
+  cellsPending,
+  Waits,
+  Standing,
+  taken,
+  drain,
+  Turned,
+  Traced,
+  Entered,
+  Fits,
+}
+use Rattle.stack.proofs.Putting.{pending-length, taken-off}
+use Rattle.stack.proofs.Above.{taken-drops, taken-enters, few-pending}
+use Rattle.stack.proofs.Climbing.{one-cell, small-cells}
+use Rattle.stack.proofs.Entering.{cells-left, drained, stands}
+
+-- a step is one step more
+one-step : (l : Length) (s : Step) → (plusStep l s) .straight + (plusStep l s) .diagonal ≡ l .straight + l .diagonal + 1
+one-step l Straight = omega arith
+one-step l Diagonal = omega arith
+
+module _ {rows cols : ℕ} {codes outlets subs : List ℕ} (ready : Ready rows cols codes outlets subs) where
+  abbrev g : Grid
+  g = gridOf rows cols codes
+
+  abbrev sub : ℕ → ℕ
+  sub y = subaccumulation g outlets y
+
+  -- ---- one turn
+
+  module _ {end : ℕ} {s : Stack} {old : List ℕ} (standing : Standing g outlets end s old) (some-left : 0 < s .top) where
+    -- the pending cells have their places
+    pub places : 3 * (s .top + s .progress .visited) ≤ end
+    places = omega (
+      arith,
+      few-pending g outlets (ready .lent) (ready .agreed) end (pending old (s .top)) (standing .all-wait),
+      pending-length old (s .top),
+      standing .all-cells,
+    )
+
+    module _ {w : Pending} (is-w : w ≡ pendingAt old (s .top - 1)) where
+      abbrev rest : List Pending
+      rest = pending old (s .top - 1)
+
+      abbrev y : ℕ
+      y = w .row * cols + w .col
+
+      opened : pending old (s .top) ≡ w ∷ rest
+      opened = taken-off old (s .top) some-left ∙ ap (λ v. v ∷ rest) (sym is-w)
+
+      wait : Waits g outlets end w × Every (Waits g outlets end) rest
+      wait = subst (Every (Waits g outlets end)) opened (standing .all-wait)
+
+      cells : cellsPending g outlets (pending old (s .top)) ≡ sub y + cellsPending g outlets rest
+      unfolding cellsPending
+      cells = ap (cellsPending g outlets) opened
+
+      pub on-ground : AtOutlet rows cols codes (w .row) (w .col)
+      on-ground = record { row-in = wait .0 .row-in; col-in = wait .0 .col-in; solid = wait .0 .solid }
+
+      pub small-length : w .below .straight + w .below .diagonal < 2 ^ 24
+      small-length = omega (arith, wait .0 .short, one-cell ready on-ground, standing .small)
+
+      pub few-dropped : s .progress .dropped + sub y ≤ 2 ^ 24
+      few-dropped = omega (arith, cells, standing .all-cells, standing .small)
+
+      pub fits : Fits (sub y) end (s .progress) (s .top - 1) old
+      fits = record {
+        room = omega (arith, cells, few, standing .all-cells, standing .few-paths);
+        within = standing .within;
+        few-visited = omega (arith, cells, standing .all-cells, standing .small, one-cell ready on-ground);
+        few-paths = omega (
+          arith,
+          cells,
+          standing .all-cells,
+          standing .small,
+          standing .few-paths,
+          one-cell ready on-ground,
+        );
+      }
+        where
+          few : s .top - 1 ≤ cellsPending g outlets rest
+          few = omega (
+            arith,
+            few-pending g outlets (ready .lent) (ready .agreed) end rest (wait .1),
+            pending-length old (s .top - 1),
+          )
+
+      module _ (dropping : Bool) {n : ℕ} (is-n : n ≡ sub y) {b : Bool}
+          (tests : (t : Dir) (cs : List ℕ) → length cs ≡ s .progress .paths → b ≡ drops squares
+          (firstRule squares dropping) (map (startAt (s .progress .greatest)) cs) (w .below) t n) where
+        abbrev state : State squares
+        state = stateOf (s .progress) old end
+
+        test : b ≡ drops squares (firstRule squares dropping) (state .starts) (w .below) E (sub y)
+        test = tests E (kept old end (s .progress .paths)) (kept-length old end (s .progress .paths))
+            ∙ ap (drops squares (firstRule squares dropping) (state .starts) (w .below) E) is-n
+
+        first-taken : drain g outlets dropping (pending old (s .top)) state
+            ≡ drain g outlets dropping rest (taken g outlets dropping y (w .below) state)
+        unfolding drain
+        first-taken = ap (λ ws. drain g outlets dropping ws state) opened
+
+        -- it is dropped
+        pub turn-dropped : b ≡ true → {q : Progress} → q ≡ record {
+          greatest = s .progress .greatest;
+          paths = s .progress .paths;
+          visited = s .progress .visited;
+          dropped = s .progress .dropped + n;
+        } → Turned g outlets dropping end s old (record { progress = q; top = s .top - 1 }) old
+        turn-dropped e is-q = rw is-q (record {
+          standing = record {
+            all-wait = wait .1;
+            all-cells = omega (arith, cells, standing .all-cells);
+            few-paths = standing .few-paths;
+            small = standing .small;
+            within = standing .within;
+          };
+          drains = sym (first-taken ∙ ap (drain g outlets dropping rest)
+              (taken-drops g outlets dropping y (w .below) state (sym test ∙ e)
+              ∙ ap (dropCells squares state) (sym is-n)));
+          fewer = omega (arith, cells, one-cell ready on-ground);
+          beyond = λ i h. refl;
+        })
+
+        -- it is entered
+        pub turn-entered : b ≡ false → {own : Length} → own ≡ plusStep (w .below) (stepBy (leadOf (getD codes y 0)))
+            → {r : Stack} {new : List ℕ} → Entered g outlets y own end (s .progress) (s .top - 1) old r new
+            → length new ≡ length old → Turned g outlets dropping end s old r new
+        turn-entered e {own} is-own {r} {new} into same = record {
+          standing = stands ready on-ground into (wait .1)
+              (omega (arith, cells, standing .all-cells)) (standing .few-paths) (standing .small)
+              (omega (arith, same, standing .within))
+              (omega (
+                arith,
+                ap (λ (l : Length). l .straight + l .diagonal) is-own,
+                one-step (w .below) (stepBy (leadOf (getD codes y 0))),
+                wait .0 .short,
+              ));
+          drains = drained ready on-ground into dropping
+              ∙ sym (first-taken ∙ ap (drain g outlets dropping rest)
+              (taken-enters g outlets dropping y (w .below) state (sym test ∙ e)
+              ∙ ap (λ (l : Length). enter squares (firstRule squares dropping) g outlets y l state) (sym own-is)));
+          fewer = omega (arith, cells, cells-left ready on-ground into);
+          beyond = into .beyond;
+        }
+          where
+            own-is : own ≡ ownLength g y (w .below)
+            own-is = is-own ∙ ap (λ (k : ℕ). plusStep (w .below) (stepBy (leadOf k)))
+                (sym (code-inside g y (digits-lt (wait .0 .row-in) (wait .0 .col-in))))
+
+  -- ---- the whole search
+
+  module _ {row col : ℕ} (at : AtOutlet rows cols codes row col) where
+    abbrev o : ℕ
+    o = row * cols + col
+
+    pub outlet-fits : {end : ℕ} → end ≡ 3 * sub o → {p : Progress} → p ≡ begun → {old : List ℕ} → end ≤ length old
+        → Fits (sub o) end p 0 old
+    outlet-fits is-end is-p h = rw is-p
+        (record { room = omega arith; within = h; few-visited = omega arith; few-paths = omega arith })
+
+    module _ {end : ℕ} (is-end : end ≡ 3 * sub o) {p : Progress} (is-p : p ≡ begun) {old : List ℕ} {r : Stack}
+        {new : List ℕ} (enters : Entered g outlets o (counts 0 0) end p 0 old r new) where
+      into : Entered g outlets o (counts 0 0) end begun 0 old r new
+      into = subst (λ q. Entered g outlets o (counts 0 0) end q 0 old r new) is-p enters
+
+      pub outlet-stands : end ≤ length new → Standing g outlets end r new
+      unfolding pending cellsPending
+      outlet-stands h = stands ready at into tt (omega arith) (omega arith)
+          (omega (arith, small-cells ready at)) h (omega arith)
+
+      pub outlet-drains : (dropping : Bool)
+          → drain g outlets dropping (pending new (r .top)) (stateOf (r .progress) new end)
+          ≡ searchFrom squares (firstRule squares dropping) o (forest g outlets o)
+      unfolding pending drain kept
+      outlet-drains dropping = drained ready at into dropping
+          ∙ sym (search-enters squares (firstRule squares dropping) g outlets (ready .lent) (ready .agreed) o (at .solid))
+
+    -- none is pending: all is traced
+    pub traced : {end : ℕ} → end ≡ 3 * sub o → (dropping : Bool) {s : Stack} (old : List ℕ) {work : List ℕ}
+        → Standing g outlets end s work → s .top ≡ 0
+        → drain g outlets dropping (pending work (s .top)) (stateOf (s .progress) work end)
+        ≡ searchFrom squares (firstRule squares dropping) o (forest g outlets o)
+        → ((i : ℕ) → end ≤ i → getD work i 0 ≡ getD old i 0)
+        → Traced g outlets dropping o old (s .progress) work
+    unfolding pending drain cellsPending
+    traced {end} is-end dropping {s} old {work} standing none d beyond = record {
+      searched = record {
+        state = ap (stateOf (s .progress) work) (sym is-end)
+            ∙ ap (λ (k : ℕ). drain g outlets dropping (pending work k) (stateOf (s .progress) work end)) (sym none) ∙ d;
+        all-cells = omega (
+          arith,
+          standing .all-cells,
+          ap (λ (k : ℕ). cellsPending g outlets (pending work k)) none,
+        );
+        few-paths = standing .few-paths;
+      };
+      beyond = λ i h. beyond i (omega arith);
+    }

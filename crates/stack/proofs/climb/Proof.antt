@@ -1,0 +1,110 @@
+-- `stack::climb` meets its contract, whether the outlets are looked for or not.
+-- Assumes nothing.
+use mathlib.Core.Path.{_≡_, sym, ap, _∙_, subst}
+use mathlib.Core.List.{[]}
+use Prim.Native.Nat.{ℕ, _+_, _-_, _*_}
+use native.Mathlib.Omega.{arith}
+use lib.ListN.{length}
+use Rattle.ground.specs.Lists.{sumOf}
+use Rattle.ground.specs.Compass.{dirs}
+use Rattle.ground.specs.Grid.{gridOf}
+use Rattle.stack.specs.Pending.{inflowsAbove, PutOn}
+use Rattle.stack.proofs.Putting.{put-none}
+use Rattle.stack.proofs.Climbing.{on-cell, one-cell, few-above, none-above, no-outlet}
+use borrow.Author.Needs.{needs}
+use Rattle.stack.proofs.climb.Statement.{statement}
+use Rattle.stack.proofs.climb.Tie as tie
+
+-- where the sums agree no outlet flows in
+abbrev start : tie.Then2 → tie.Start
+start c = c .before .before .before .before .before .before .before .before .before .before
+
+alike : (c : tie.Then2)
+    → inflowsAbove (gridOf (start c .args .rows) (start c .args .cols) (start c .args .codes .now)) []
+    (start c .args .row * start c .args .cols + start c .args .col) (start c .args .len) dirs
+    ≡ inflowsAbove (gridOf (start c .args .rows) (start c .args .cols) (start c .args .codes .now))
+    (start c .args .outlets .now) (start c .args .row * start c .args .cols + start c .args .col) (start c .args .len)
+    dirs
+alike c =
+    let s = start c in
+    no-outlet (s .pre .0) (s .pre .1 .0) (s .args .len)
+    (sym (ap sumOf (c .before .before .before .inflows-of .ensures)) ∙ sym (c .before .before .sum .ensures)
+    ∙ c .if2 .taken ∙ c .before .wide .ensures .0 ∙ ap (λ (m : ℕ). m - 1) (s .pre .1 .1 .0))
+
+returns : tie.Need-returns
+returns c =
+    let s = c .before .before .before .before .before in
+    let a = s .args in
+    subst (λ ws. PutOn ws (a .top) (a .work .now) (a .top) (a .work .now))
+    (sym (none-above (s .pre .0) (s .pre .1 .0) (a .len) (sym (s .pre .1 .1 .0) ∙ c .if1 .taken)))
+    (put-none (a .work .now) (a .top))
+
+slice-aggregate-none : tie.Need-slice-aggregate-none
+slice-aggregate-none c = search needs
+
+inflows-of-requires : tie.Need-inflows-of-requires
+inflows-of-requires c κs = search needs
+
+sum-requires : tie.Need-sum-requires
+sum-requires c κs = search needs
+
+sub-wide : tie.Need-sub-wide
+sub-wide c = let s = c .before .before .before .before .before .before .before .before in
+    omega (arith, one-cell (s .pre .0) (s .pre .1 .0), s .pre .1 .1 .0)
+
+wide-requires : tie.Need-wide-requires
+wide-requires c κs = search needs
+
+put-inflows-requires : tie.Need-put-inflows-requires
+put-inflows-requires c κs =
+    let s = c .before .before .before .before .before .before .before .before .before .before .before in (
+      on-cell (s .pre .0) (s .pre .1 .0),
+      omega (
+        arith,
+        ap length (alike (c .before)),
+        few-above (s .pre .0) (s .pre .1 .0) (s .args .len),
+        s .pre .1 .1 .0,
+        s .pre .1 .1 .1,
+      ),
+    )
+
+same-length : tie.Need-same-length
+same-length c = search needs
+
+returns-2 : tie.Need-returns-2
+returns-2 c =
+    let a = c .before .before .before .before .before .before .before .before .before .before .before .before .before
+    .before .args in
+    let r = c .before .before .put-inflows in
+    subst (λ ws. PutOn ws (a .top) (a .work .now) (r .result) (r .last .1 .1 .1 .1 .1 .1 .1 .1 .0))
+    (alike (c .before .before .before .before)) (r .ensures)
+
+put-inflows-requires-2 : tie.Need-put-inflows-requires-2
+put-inflows-requires-2 c κs =
+    let s = c .before .before .before .before .before .before .before .before .before .before .before in (
+      on-cell (s .pre .0) (s .pre .1 .0),
+      omega (arith, few-above (s .pre .0) (s .pre .1 .0) (s .args .len), s .pre .1 .1 .0, s .pre .1 .1 .1),
+    )
+
+same-length-2 : tie.Need-same-length-2
+same-length-2 c = search needs
+
+returns-3 : tie.Need-returns-3
+returns-3 c = search needs
+
+pub climb-spec : {M : Type 1} → statement M
+climb-spec =
+    tie.close
+    (tie.spec
+    returns
+    slice-aggregate-none
+    inflows-of-requires
+    sum-requires
+    sub-wide
+    wide-requires
+    put-inflows-requires
+    same-length
+    returns-2
+    put-inflows-requires-2
+    same-length-2
+    returns-3)

@@ -1,0 +1,117 @@
+-- `stack::put_inflows` meets its contract: what lies in the directions from `left` on is put on.
+-- Assumes nothing.
+use mathlib.Core.Path.{_≡_, refl, sym, ap, _∙_, subst}
+use Prim.Native.Nat.{ℕ, _+_, _*_, _≤_}
+use native.Mathlib.Omega.{arith}
+use lib.ListN.{length, drop}
+use borrow.Author.Needs.{needs}
+use Rattle.ground.specs.Compass.{dirs}
+use Rattle.ground.specs.Grid.{gridOf}
+use Rattle.ground.specs.Moves.{spotCell}
+use Rattle.stack.specs.Pending.{inflowsAbove, PutOn}
+use Rattle.stack.proofs.Putting.{put-none, passed, room-left, joined}
+use Rattle.stack.proofs.put_inflows.Statement.{statement}
+use Rattle.stack.proofs.put_inflows.Tie as tie
+
+abbrev Inv-loop : tie.InvT-loop
+Inv-loop rows cols codes outlets row col len top work₀ at₀ left₀ work at left =
+    (left ≤ 8)
+    × (length work ≡ length work₀)
+    × PutOn (inflowsAbove (gridOf rows cols codes) outlets (row * cols + col) len (drop left dirs)) top work₀ at work
+
+abbrev μ-loop : tie.MeasureT-loop
+μ-loop rows cols codes outlets row col len top work₀ at₀ left₀ work at left = left
+
+loop-holds : tie.Need-loop-holds Inv-loop μ-loop
+unfolding inflowsAbove
+loop-holds c = let a = c .before .before .before .args in (omega arith, refl, put-none (a .work .now) (a .top))
+
+sub-left : tie.Need-sub-left Inv-loop μ-loop
+sub-left c = search needs
+
+inflow-from-requires : tie.Need-inflow-from-requires Inv-loop μ-loop
+inflow-from-requires c κs = c .before .before .before .before .before .pre .0
+
+enum-known-r : tie.Need-enum-known-r Inv-loop μ-loop
+enum-known-r c = search needs
+
+put-requires : tie.Need-put-requires Inv-loop μ-loop
+put-requires c κs =
+    let s = c .before .before .before .before .before .before .before .before .before .before in
+    let a = s .args in
+    let l = c .before .before .before .before .before .before .loop in
+    let f = c .before .before .before .before .inflow-from .ensures in
+    let t = c .before .before .r .given in (
+      room-left (gridOf (a .rows) (a .cols) (a .codes .now)) (a .outlets .now) (a .row * a .cols + a .col) (a .len)
+          (l .left) (omega arith) (l .inv .0) (l .inv .2) (t .0 .0) (t .0 .1 .0)
+          (sym (f .is-cell) ∙ ap (spotCell (a .cols)) (t .1)) (length (l .work)) (omega (arith, s .pre .1, l .inv .1)),
+      omega (arith, f .row-in (t .0 .0) (t .0 .1 .0) (t .1), s .pre .0 .rows-small),
+      omega (arith, f .col-in (t .0 .0) (t .0 .1 .0) (t .1), s .pre .0 .cols-small),
+    )
+
+loop-less : tie.Need-loop-less Inv-loop μ-loop
+loop-less c = search needs
+
+loop-again : tie.Need-loop-again Inv-loop μ-loop
+loop-again c =
+    let a = c .before .before .before .before .before .before .before .before .before .before .before .before .before
+    .args in
+    let l = c .before .before .before .before .before .before .before .before .before .loop in
+    let f = c .before .before .before .before .before .before .before .inflow-from .ensures in
+    let t = c .before .before .before .before .before .r .given in
+    let p = c .before .before .put in (
+      omega arith,
+      p .kept .0 ∙ l .inv .1,
+      joined (gridOf (a .rows) (a .cols) (a .codes .now)) (a .outlets .now) (a .row * a .cols + a .col) (a .len)
+          (l .left) (omega arith) (l .inv .0) (l .inv .2) (t .0 .0) (t .0 .1 .0)
+          (sym (f .is-cell) ∙ ap (spotCell (a .cols)) (t .1)) (f .col-in (t .0 .0) (t .0 .1 .0) (t .1))
+          (p .ensures),
+    )
+
+enum-told : tie.Need-enum-told Inv-loop μ-loop
+enum-told c = search needs
+
+loop-less-2 : tie.Need-loop-less-2 Inv-loop μ-loop
+loop-less-2 c = search needs
+
+loop-again-2 : tie.Need-loop-again-2 Inv-loop μ-loop
+loop-again-2 c =
+    let a = c .before .before .before .before .before .before .before .before .args in
+    let l = c .before .before .before .before .loop in
+    let f = c .before .before .inflow-from .ensures in (
+      omega arith,
+      l .inv .1,
+      passed (gridOf (a .rows) (a .cols) (a .codes .now)) (a .outlets .now) (a .row * a .cols + a .col) (a .len)
+          (l .left) (omega arith) (l .inv .0) (l .inv .2)
+          (sym (f .is-cell) ∙ ap (spotCell (a .cols)) (c .enum-told .given .1)),
+    )
+
+same-length : tie.Need-same-length Inv-loop μ-loop
+same-length c = c .before .loop .inv .1
+
+returns : tie.Need-returns Inv-loop μ-loop
+returns c =
+    let a = c .before .before .before .before .before .args in
+    let l = c .before .loop in
+    let e : l .left ≡ 0 = omega arith in
+    subst (λ (k : ℕ). PutOn (inflowsAbove (gridOf (a .rows) (a .cols) (a .codes .now)) (a .outlets .now)
+    (a .row * a .cols + a .col) (a .len) (drop k dirs)) (a .top) (a .work .now) (l .at) (l .work)) e (l .inv .2)
+
+pub put-inflows-spec : {M : Type 1} → statement M
+put-inflows-spec =
+    tie.close
+    (tie.spec
+    Inv-loop
+    μ-loop
+    loop-holds
+    sub-left
+    inflow-from-requires
+    enum-known-r
+    put-requires
+    loop-less
+    loop-again
+    enum-told
+    loop-less-2
+    loop-again-2
+    same-length
+    returns)

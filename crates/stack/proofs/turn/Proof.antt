@@ -1,0 +1,151 @@
+-- `stack::turn` meets its contract: the cell that is taken off is dropped or entered.
+-- Assumes nothing.
+use mathlib.Core.Path.{ap, _∙_}
+use native.Mathlib.Omega.{arith}
+use Rattle.lengths.specs.Rule.{plusStep}
+use Rattle.upstream.specs.Ready.{AtOutlet}
+use Rattle.stack.proofs.Climbing.{indexed, read, small-cells}
+use Rattle.stack.proofs.Turning.{places, on-ground, small-length, few-dropped, fits, turn-dropped, turn-entered}
+use borrow.Author.Needs.{needs}
+use Rattle.stack.proofs.turn.Statement.{statement}
+use Rattle.stack.proofs.turn.Tie as tie
+
+-- the pending cell, with what is known of it, seen from where it is read
+abbrev start : tie.After-pending-at → tie.Start
+start c = c .before .before .before .before .before .before .before .before
+
+ground-there : (c : tie.After-pending-at) → AtOutlet (start c .args .rows) (start c .args .cols) (start c .args .codes .now)
+    (c .pending-at .result .row) (c .pending-at .result .col)
+ground-there c =
+    let s = start c in
+    on-ground (s .pre .0) (s .pre .1 .0) (s .pre .1 .1)
+    (c .pending-at .ensures)
+
+sub-top : tie.Need-sub-top
+sub-top c = search needs
+
+pending-at-requires : tie.Need-pending-at-requires
+pending-at-requires c κs =
+    let s = c .before .before .before .before .before .before .before in
+    omega (
+      arith,
+      places (s .pre .0) (s .pre .1 .0) (s .pre .1 .1),
+      s .pre .1 .0 .within,
+      s .pre .1 .1,
+    )
+
+mul-at : tie.Need-mul-at
+mul-at c =
+    let d = c .before in
+    omega (arith, indexed (start d .pre .0) (ground-there d))
+
+add-at : tie.Need-add-at
+add-at c =
+    let d = c .before in
+    omega (arith, indexed (start d .pre .0) (ground-there d))
+
+mul-n : tie.Need-mul-n
+mul-n c =
+    let d = c .before in
+    omega (arith, indexed (start d .pre .0) (ground-there d))
+
+shared-slice-read-n : tie.Need-shared-slice-read-n
+shared-slice-read-n c =
+    let d = c .before .before in
+    omega (arith, indexed (start d .pre .0) (ground-there d))
+
+is-dropped-requires : tie.Need-is-dropped-requires
+is-dropped-requires c κs =
+    let d = c .before .before in
+    let s = start d in
+    let l = small-length (s .pre .0) (s .pre .1 .0) (s .pre .1 .1)
+    (d .pending-at .ensures) in
+    (omega arith, omega (arith, read (s .pre .0) (ground-there d), small-cells (s .pre .0) (ground-there d)))
+
+drop-cells-requires : tie.Need-drop-cells-requires
+drop-cells-requires c κs =
+    let d = c .before .before .before .before in
+    let s = start d in
+    omega (
+      arith,
+      read (s .pre .0) (ground-there d),
+      few-dropped (s .pre .0) (s .pre .1 .0) (s .pre .1 .1)
+          (d .pending-at .ensures),
+    )
+
+same-length : tie.Need-same-length
+same-length c = search needs
+
+returns : tie.Need-returns
+returns c =
+    let d = c .before .before .before .before .before in
+    let s = start d in
+    turn-dropped (s .pre .0) (s .pre .1 .0) (s .pre .1 .1)
+    (d .pending-at .ensures)
+    (s .args .dropping) (read (s .pre .0) (ground-there d)) (c .before .before .is-dropped .ensures)
+    (c .before .if1 .taken) (c .drop-cells .ensures)
+
+shared-slice-read-step-of : tie.Need-shared-slice-read-step-of
+shared-slice-read-step-of c = let d = c .before .before .before .before .before in
+    omega (arith, indexed (start d .pre .0) (ground-there d))
+
+step-of-requires : tie.Need-step-of-requires
+step-of-requires c κs = search needs
+
+plus-requires : tie.Need-plus-requires
+plus-requires c κs =
+    let d = c .before .before .before .before .before .before in
+    let s = start d in
+    let l = small-length (s .pre .0) (s .pre .1 .0) (s .pre .1 .1)
+    (d .pending-at .ensures) in
+    (omega arith, omega arith)
+
+enter-cell-requires : tie.Need-enter-cell-requires
+enter-cell-requires c κs =
+    let d = c .before .before .before .before .before .before .before .before in
+    let s = start d in (
+      s .pre .0,
+      (
+        ground-there d,
+        fits (s .pre .0) (s .pre .1 .0) (s .pre .1 .1)
+            (d .pending-at .ensures),
+      ),
+    )
+
+same-length-2 : tie.Need-same-length-2
+same-length-2 c = search needs
+
+returns-2 : tie.Need-returns-2
+returns-2 c =
+    let d = c .before .before .before .before .before .before .before .before .before .before .before in
+    let s = start d in
+    let e = c .before .before .enter-cell in
+    turn-entered (s .pre .0) (s .pre .1 .0) (s .pre .1 .1)
+    (d .pending-at .ensures)
+    (s .args .dropping) (read (s .pre .0) (ground-there d))
+    (c .before .before .before .before .before .before .before .before .is-dropped .ensures)
+    (c .before .before .before .before .before .before .before .if1 .left)
+    (c .before .before .before .before .plus .ensures
+    ∙ ap (plusStep (d .pending-at .result .below)) (c .before .before .before .before .before .step-of .ensures))
+    (e .ensures) (e .kept .1 .1 .1 .1 .1 .1 .1 .1 .1 .1 .1 .0)
+
+pub turn-spec : {M : Type 1} → statement M
+turn-spec =
+    tie.close
+    (tie.spec
+    sub-top
+    pending-at-requires
+    mul-at
+    add-at
+    mul-n
+    shared-slice-read-n
+    is-dropped-requires
+    drop-cells-requires
+    same-length
+    returns
+    shared-slice-read-step-of
+    step-of-requires
+    plus-requires
+    enter-cell-requires
+    same-length-2
+    returns-2)

@@ -1,0 +1,107 @@
+-- The search from the pending cells, one after another, and what the functions of the source ask and promise.
+-- Assumes nothing.
+use mathlib.Core.Path.{_≡_}
+use mathlib.Core.Bool.{Bool, true, false}
+use mathlib.Core.List.{List, [], _∷_, _++_}
+use Prim.Native.Nat.{ℕ, _+_, _*_, _≤_, _<_, _^_}
+use lib.ListN.{length, getD}
+use lib.Dec.{eqb}
+use Rattle.lengths.specs.declared.Step.{Step}
+use Rattle.lengths.specs.declared.Step.the-variants.{Straight}
+use Rattle.lengths.specs.declared.Length.{Length}
+use Rattle.lengths.specs.Rule.{plusStep}
+use Rattle.ground.specs.declared.Lead.{Lead}
+use Rattle.ground.specs.declared.Lead.the-variants.{Nowhere, By}
+use Rattle.ground.specs.Lists.{Every}
+use Rattle.ground.specs.Compass.{E, dirs, squares}
+use Rattle.ground.specs.Grid.{Grid, codeAt, ground}
+use Rattle.ground.specs.Accumulation.{subaccumulation}
+use Rattle.ground.specs.Moves.{leadOf}
+use Rattle.search.specs.Search.{State, meetIf, firstRule, drops, dropCells}
+use Rattle.search.specs.Neighbours.{enter}
+use Rattle.progress.specs.declared.Progress.{Progress}
+use Rattle.progress.specs.Starts.{startAt, startsOf, stateOf}
+use Rattle.upstream.specs.Ready.{Searched}
+use Rattle.stack.specs.declared.Pending.{Pending}
+use Rattle.stack.specs.declared.Stack.{Stack}
+use Rattle.stack.specs.Pending.{pending, inflowsAbove}
+
+-- the step of a lead
+abbrev pub stepBy : Lead → Step
+stepBy Nowhere = Straight
+stepBy (By m) = m .step
+
+-- the length of a cell above this one, by its own code
+abbrev pub ownLength : Grid → ℕ → Length → Length
+ownLength g y below = plusStep below (stepBy (leadOf (codeAt g y)))
+
+abbrev pub cellOf : Grid → Pending → ℕ
+cellOf g w = w .row * g .cols + w .col
+
+module _ (g : Grid) (outlets : List ℕ) where
+  -- the cells that wait, with all above them
+  unfoldable pub cellsPending : List Pending → ℕ
+  cellsPending [] = 0
+  cellsPending (w ∷ ws) = subaccumulation g outlets (cellOf g w) + cellsPending ws
+
+  -- a cell of ground waits; the length below it and all its cells fit, three numbers for each
+  pub record Waits (end : ℕ) (w : Pending) : Type 0 where
+    pub row-in : w .row < g .rows
+    pub col-in : w .col < g .cols
+    pub solid : ground g (cellOf g w) ≡ true
+    pub short : 3 * (w .below .straight + w .below .diagonal + subaccumulation g outlets (cellOf g w)) ≤ end
+
+  -- all cells of the search are visited, dropped or pending
+  pub record Standing (end : ℕ) (s : Stack) (work : List ℕ) : Type 0 where
+    pub all-wait : Every (Waits end) (pending work (s .top))
+    pub all-cells : 3 * (s .progress .visited + s .progress .dropped + cellsPending (pending work (s .top))) ≡ end
+    pub few-paths : s .progress .paths ≤ s .progress .visited
+    pub small : end ≤ 3 * 2 ^ 24
+    pub within : end ≤ length work
+
+  module _ (dropping : Bool) where
+    -- what the search does with a cell above this length: it drops or enters it. 01's limit is the same for any step, so
+    -- the test takes one of them
+    unfoldable pub taken : ℕ → Length → State squares → State squares
+    taken y below st = elim (drops squares (firstRule squares dropping) (st .starts) below E
+        (subaccumulation g outlets y)) [
+          | true ↦ dropCells squares st (subaccumulation g outlets y)
+          | false ↦ enter squares (firstRule squares dropping) g outlets y (ownLength g y below) st
+        ]
+
+    -- and with all pending cells, the first first
+    unfoldable pub drain : List Pending → State squares → State squares
+    drain [] st = st
+    drain (w ∷ ws) st = drain ws (taken (cellOf g w) (w .below) st)
+
+    -- one was taken off: the rest of the search is the same
+    pub record Turned (end : ℕ) (s : Stack) (old : List ℕ) (r : Stack) (new : List ℕ) : Type 0 where
+      pub standing : Standing end r new
+      pub drains : drain (pending new (r .top)) (stateOf (r .progress) new end)
+          ≡ drain (pending old (s .top)) (stateOf (s .progress) old end)
+      pub fewer : cellsPending (pending new (r .top)) < cellsPending (pending old (s .top))
+      pub beyond : (i : ℕ) → end ≤ i → getD new i 0 ≡ getD old i 0
+
+    -- the whole search, with the starts before the end
+    pub record Traced (o : ℕ) (old : List ℕ) (r : Progress) (new : List ℕ) : Type 0 where
+      pub searched : Searched g outlets dropping o (3 * subaccumulation g outlets o) r new
+      pub beyond : (i : ℕ) → 3 * subaccumulation g outlets o ≤ i → getD new i 0 ≡ getD old i 0
+
+  -- a cell was visited, and its inflows wait
+  pub record Entered (x : ℕ) (len : Length) (end : ℕ) (p : Progress) (top : ℕ) (old : List ℕ) (r : Stack)
+      (new : List ℕ) : Type 0 where
+    pub state : _≡_ {A = State squares} (stateOf (r .progress) new end) (record {
+      starts = meetIf squares (eqb (subaccumulation g outlets x) 1) (startsOf p old end) (startAt len x);
+      visited = p .visited + 1;
+      dropped = p .dropped;
+    })
+    pub few : r .progress .paths ≤ p .paths + 1
+    pub pending-is : pending new (r .top) ≡ inflowsAbove g outlets x len dirs ++ pending old top
+    pub beyond : (i : ℕ) → end ≤ i → getD new i 0 ≡ getD old i 0
+
+-- there is room for so many cells more
+pub record Fits (cells end : ℕ) (p : Progress) (top : ℕ) (work : List ℕ) : Type 0 where
+  pub room : 3 * (top + cells) + p .paths ≤ end
+  pub within : end ≤ length work
+  pub few-visited : p .visited < 2 ^ 24
+  pub few-paths : p .paths < 2 ^ 24

@@ -1,0 +1,47 @@
+-- The pending cells in the working space.
+-- Assumes nothing.
+use mathlib.Core.Path.{_≡_}
+use mathlib.Core.List.{List, [], _∷_, _++_}
+use mathlib.Core.Option.{Option, none, some}
+use Prim.Native.Nat.{ℕ, zero, suc, _+_, _*_, _/_, _%_, _≤_}
+use lib.ListN.{length, getD}
+use Rattle.lengths.specs.declared.Length.{Length}
+use Rattle.lengths.specs.Rule.{counts}
+use Rattle.ground.specs.Compass.{Dir}
+use Rattle.ground.specs.Grid.{Grid}
+use Rattle.search.specs.Neighbours.{inflowIn}
+use Rattle.stack.specs.declared.Pending.{Pending}
+
+-- a cell of this row and column waits above a length
+abbrev pub pendingWith : ℕ → ℕ → Length → Pending
+pendingWith row col below = record { row = row; col = col; below = below }
+
+-- the pending cell of the three numbers at 3n
+abbrev pub pendingAt : List ℕ → ℕ → Pending
+pendingAt work n = pendingWith (getD work (3 * n) 0 / 4096) (getD work (3 * n) 0 % 4096)
+    (counts (getD work (3 * n + 1) 0) (getD work (3 * n + 2) 0))
+
+-- the first n of them, the last on top
+unfoldable pub pending : List ℕ → ℕ → List Pending
+pending work zero = []
+pending work (suc n) = pendingAt work n ∷ pending work n
+
+-- the same by the cell's number
+abbrev pub pendingOf : ℕ → Length → ℕ → Pending
+pendingOf cols below y = pendingWith (y / cols) (y % cols) below
+
+-- it is put on, if there is one
+abbrev pub onTop : ℕ → Length → Option ℕ → List Pending → List Pending
+onTop cols below none ws = ws
+onTop cols below (some y) ws = pendingOf cols below y ∷ ws
+
+-- what the search turns to from x in these directions, the first on top
+unfoldable pub inflowsAbove : Grid → List ℕ → ℕ → Length → List Dir → List Pending
+inflowsAbove g outlets x len [] = []
+inflowsAbove g outlets x len (d ∷ ds) = onTop (g .cols) len (inflowIn g outlets x d) (inflowsAbove g outlets x len ds)
+
+-- these were put on n pending cells; there are r now, and nothing beyond them changed
+pub record PutOn (ws : List Pending) (n : ℕ) (old : List ℕ) (r : ℕ) (new : List ℕ) : Type 0 where
+  pub pending-is : pending new r ≡ ws ++ pending old n
+  pub count : r ≡ n + length ws
+  pub beyond : (i : ℕ) → 3 * r ≤ i → getD new i 0 ≡ getD old i 0

@@ -1,0 +1,281 @@
+// The search from pending cells, which stand at the front of the lent working space.
+use ground::Lead;
+use ground::Spot;
+use ground::index_of;
+use ground::inflows_of;
+use ground::lead_of;
+use lengths::Length;
+use lengths::Step;
+use lengths::wide;
+use progress::Progress;
+use progress::begin;
+use progress::drop_cells;
+use progress::is_dropped;
+use progress::visit;
+use upstream::inflow_from;
+ghost use mathlib.Core.Path.{_≡_};
+ghost use mathlib.Core.List.{List, [], _∷_};
+ghost use Prim.Native.Nat.{ℕ, _+_, _*_, _≤_, _<_, _^_};
+ghost use lib.ListN.{length, getD};
+ghost use Rattle.ground.specs.Compass.{dirs};
+ghost use Rattle.ground.specs.Grid.{gridOf};
+ghost use Rattle.ground.specs.Accumulation.{subaccumulation};
+ghost use Rattle.ground.specs.Moves.{leadOf};
+ghost use Rattle.upstream.specs.Turns.{OnCell};
+ghost use Rattle.upstream.specs.Ready.{Ready, AtOutlet, Searched};
+ghost use Rattle.stack.specs.Pending.{pendingAt, pendingWith, inflowsAbove, PutOn};
+ghost use Rattle.stack.specs.Draining.{stepBy, Fits, Entered, Standing, Turned, Traced};
+
+// A cell that waits, and the length of the cell below it.
+pub struct Pending {
+    pub row: usize,
+    pub col: usize,
+    pub below: Length,
+}
+
+// How far the search has come, and how many cells are pending.
+pub struct Stack {
+    pub progress: Progress,
+    pub top: usize,
+}
+
+// The pending cell above n others. It takes three numbers: its place, row × 4,096 + column, and the counts of the length
+// below it.
+fn pending_at(work: &[u32], n: usize) -> Pending
+    requires { ⌜ 3 * (n + 1) ≤ length (now work) ⌝ }
+    ensures { λ r. ⌜ r ≡ pendingAt (now (work .entry)) n ⌝ }
+{
+    let at = 3 * n;
+    let place = index_of(work[at]);
+    let below = Length {
+        straight: work[at + 1],
+        diagonal: work[at + 2],
+    };
+    Pending {
+        row: place / 4096,
+        col: place % 4096,
+        below,
+    }
+}
+
+// A cell is put on n others.
+fn put(work: &mut [u32], n: usize, row: usize, col: usize, below: Length) -> usize
+    requires { ⌜ (3 * (n + 1) ≤ length (now work)) × (row < 4096) × (col < 4096) ⌝ }
+    ensures { λ r. ⌜ PutOn (pendingWith row col below ∷ []) n (now (work .entry)) r (now (work .exit)) ⌝ }
+{
+    let at = 3 * n;
+    work[at] = (row * 4096 + col) as u32;
+    work[at + 1] = below.straight;
+    work[at + 2] = below.diagonal;
+    n + 1
+}
+
+// What flows into a cell at this length is put on, the last neighbour first, so that the first comes on top.
+fn put_inflows(
+    rows: usize,
+    cols: usize,
+    codes: &[u8],
+    outlets: &[u32],
+    row: usize,
+    col: usize,
+    len: Length,
+    top: usize,
+    work: &mut [u32],
+) -> usize
+    requires { ⌜ OnCell rows cols (now codes) row col ⌝ }
+    requires { ⌜ 3 * (top + length (inflowsAbove (gridOf rows cols (now codes)) (now outlets) (row * cols + col) len dirs)) ≤ length (now work) ⌝ }
+    ensures { λ r. ⌜ PutOn (inflowsAbove (gridOf rows cols (now (codes .entry))) (now (outlets .entry)) (row * cols + col) len dirs) top (now (work .entry)) r (now (work .exit)) ⌝ }
+{
+    let mut at = top;
+    let mut left: usize = 8;
+    while 0 < left {
+        left -= 1;
+        if let Spot::On { row: r, col: c } = inflow_from(
+            rows,
+            cols,
+            codes,
+            outlets,
+            row,
+            col,
+            left,
+        ) {
+            at = put(work, at, r, c, len);
+        }
+    }
+    at
+}
+
+// The inflows of a cell of n cells are put on. A headwater has none. Where the subaccumulations of all that flows in add
+// up to those cells, no outlet flows in, and none is looked for.
+fn climb(
+    rows: usize,
+    cols: usize,
+    codes: &[u8],
+    outlets: &[u32],
+    subs: &[u32],
+    row: usize,
+    col: usize,
+    n: u32,
+    len: Length,
+    top: usize,
+    work: &mut [u32],
+) -> usize
+    requires { ⌜ Ready rows cols (now codes) (now outlets) (now subs) ⌝ }
+    requires { ⌜ AtOutlet rows cols (now codes) row col ⌝ }
+    requires { ⌜ (n ≡ subaccumulation (gridOf rows cols (now codes)) (now outlets) (row * cols + col)) × (3 * (top + n) ≤ length (now work)) ⌝ }
+    ensures { λ r. ⌜ PutOn (inflowsAbove (gridOf rows cols (now (codes .entry))) (now (outlets .entry)) (row * cols + col) len dirs) top (now (work .entry)) r (now (work .exit)) ⌝ }
+{
+    if n == 1 {
+        return top;
+    }
+    let none = &outlets[..0];
+    if inflows_of(rows, cols, codes, subs, row, col).sum() == wide(n - 1) {
+        return put_inflows(rows, cols, codes, none, row, col, len, top, work);
+    }
+    put_inflows(rows, cols, codes, outlets, row, col, len, top, work)
+}
+
+// A cell is visited at its length, and its inflows wait.
+fn enter_cell(
+    rows: usize,
+    cols: usize,
+    codes: &[u8],
+    outlets: &[u32],
+    subs: &[u32],
+    row: usize,
+    col: usize,
+    len: Length,
+    end: usize,
+    p: Progress,
+    top: usize,
+    work: &mut [u32],
+) -> Stack
+    requires { ⌜ Ready rows cols (now codes) (now outlets) (now subs) ⌝ }
+    requires { ⌜ AtOutlet rows cols (now codes) row col ⌝ }
+    requires { ⌜ Fits (subaccumulation (gridOf rows cols (now codes)) (now outlets) (row * cols + col)) end p top (now work) ⌝ }
+    ensures { λ r. ⌜ Entered (gridOf rows cols (now (codes .entry))) (now (outlets .entry)) (row * cols + col) len end p top (now (work .entry)) r (now (work .exit)) ⌝ }
+{
+    let at = row * cols + col;
+    let n = subs[at];
+    let progress = visit(work, end, at as u32, n, len, p);
+    let higher = climb(
+        rows,
+        cols,
+        codes,
+        outlets,
+        subs,
+        row,
+        col,
+        n,
+        len,
+        top,
+        work,
+    );
+    Stack {
+        progress,
+        top: higher,
+    }
+}
+
+// The step down from a cell of this code.
+fn step_of(code: u8) -> Step
+    ensures { λ r. ⌜ r ≡ stepBy (leadOf code) ⌝ }
+{
+    match lead_of(code) {
+        Lead::Nowhere => Step::Straight,
+        Lead::By(m) => {
+            let step = m.step;
+            step
+        }
+    }
+}
+
+// One pending cell is taken off, and dropped or entered.
+fn turn(
+    rows: usize,
+    cols: usize,
+    codes: &[u8],
+    outlets: &[u32],
+    subs: &[u32],
+    dropping: bool,
+    end: usize,
+    s: Stack,
+    work: &mut [u32],
+) -> Stack
+    requires { ⌜ Ready rows cols (now codes) (now outlets) (now subs) ⌝ }
+    requires { ⌜ Standing (gridOf rows cols (now codes)) (now outlets) end s (now work) × (0 < s .top) ⌝ }
+    ensures { λ r. ⌜ Turned (gridOf rows cols (now (codes .entry))) (now (outlets .entry)) dropping end s (now (work .entry)) r (now (work .exit)) ⌝ }
+{
+    let top = s.top - 1;
+    let p = s.progress;
+    let w = pending_at(work, top);
+    let row = w.row;
+    let col = w.col;
+    let below = w.below;
+    let at = row * cols + col;
+    let n = subs[at];
+    if is_dropped(dropping, below, n, p) {
+        return Stack {
+            progress: drop_cells(p, n),
+            top,
+        };
+    }
+    let len = below.plus(step_of(codes[at]));
+    enter_cell(
+        rows,
+        cols,
+        codes,
+        outlets,
+        subs,
+        row,
+        col,
+        len,
+        end,
+        p,
+        top,
+        work,
+    )
+}
+
+// Traces all longest paths to an outlet. Pending cells stand at the front of the working space, and the starts before the
+// end of its first numbers, three for each cell.
+pub fn trace(
+    rows: usize,
+    cols: usize,
+    codes: &[u8],
+    outlets: &[u32],
+    subs: &[u32],
+    dropping: bool,
+    row: usize,
+    col: usize,
+    work: &mut [u32],
+) -> Progress
+    requires { ⌜ Ready rows cols (now codes) (now outlets) (now subs) ⌝ }
+    requires { ⌜ AtOutlet rows cols (now codes) row col ⌝ }
+    requires { ⌜ 3 * subaccumulation (gridOf rows cols (now codes)) (now outlets) (row * cols + col) ≤ length (now work) ⌝ }
+    ensures { λ r. ⌜ Traced (gridOf rows cols (now (codes .entry))) (now (outlets .entry)) dropping (row * cols + col) (now (work .entry)) r (now (work .exit)) ⌝ }
+{
+    let end = 3 * index_of(subs[row * cols + col]);
+    let none = Length {
+        straight: 0,
+        diagonal: 0,
+    };
+    let mut s = enter_cell(
+        rows,
+        cols,
+        codes,
+        outlets,
+        subs,
+        row,
+        col,
+        none,
+        end,
+        begin(),
+        0,
+        work,
+    );
+    while 0 < s.top {
+        s = turn(rows, cols, codes, outlets, subs, dropping, end, s, work);
+    }
+    s.progress
+}
