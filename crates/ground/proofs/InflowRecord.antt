@@ -2,7 +2,7 @@
 -- Assumes nothing.
 use mathlib.Core.Path.{_≡_, refl, sym, ap, _∙_}
 use mathlib.Core.List.{List, [], _∷_, _++_, map}
-use Prim.Native.Nat.{ℕ, zero, suc, _+_, _*_, _≤_, _<_}
+use Prim.Native.Nat.{ℕ, zero, suc, _+_, _-_, _*_, _≤_, _<_}
 use native.Mathlib.Nat.{mul-le-mul}
 use native.Mathlib.Omega.{arith}
 use native.Mathlib.Numerals.{add-one}
@@ -16,9 +16,9 @@ use Rattle.ground.specs.declared.Spot.the-variants.{Off, On}
 use Rattle.ground.specs.Lists.{sumOf}
 use Rattle.ground.specs.Compass.{Dir, NE, dirs, codeOf, opposite, rowShift, colShift}
 use Rattle.ground.specs.Grid.{Grid, gridOf, codeAt, neighbour, inflowValue, inflowRecord}
-use Rattle.ground.specs.Moves.{InReach, Spotted, spotCell, dirAt, neighbourOf, valueAt, HasCell}
+use Rattle.ground.specs.Moves.{InReach, Spotted, spotCell, dirAt, neighbourOf, valueAt, HasCell, Inner}
 use Rattle.ground.proofs.Cells.{code-inside}
-use Rattle.ground.proofs.Moves.{shift-le, lies, spot-inside}
+use Rattle.ground.proofs.Moves.{shift-le, on-grid, lies, spot-inside}
 
 -- the last neighbour is NE
 pub last-dir : (k : ℕ) → (k ≡ 0 → ⊥) → (k ≡ 1 → ⊥) → (k ≡ 2 → ⊥) → (k ≡ 3 → ⊥) → (k ≡ 4 → ⊥) → (k ≡ 5 → ⊥)
@@ -61,6 +61,16 @@ module _ {rows cols : ℕ} {codes accumulation : List ℕ} {row col : ℕ}
       down-small = omega (arith, shift-le (rowShift (dirAt k)), row-is);
       right-small = omega (arith, shift-le (colShift (dirAt k)), col-is);
     }
+
+    -- each neighbour of an inner cell is on the grid
+    pub inner-spot : Inner rows cols row col
+        → Spotted rows cols row col (n .row) (n .col) (On (row + n .row - 1) (col + n .col - 1))
+    inner-spot i = on-grid (omega (arith, i .has-above)) (omega (arith, i .has-left))
+        (omega (arith, i .has-below, neighbour-in-reach .down-small))
+        (omega (arith, i .has-right, neighbour-in-reach .right-small))
+
+    pub inner-inside : Inner rows cols row col → (row + n .row - 1) * cols + (col + n .col - 1) < rows * cols
+    inner-inside i = spot-inside (inner-spot i) refl
 
     module _ {s : Spot} (p : Spotted rows cols row col (n .row) (n .col) s) where
       value-is : valueAt land accumulation (row * cols + col) k

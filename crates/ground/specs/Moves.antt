@@ -112,3 +112,10 @@ pub record HasCell (rows cols : ℕ) (codes accumulation : List ℕ) (row col : 
   pub has-accumulation : rows * cols ≤ length accumulation
   pub row-in : row < rows
   pub col-in : col < cols
+
+-- a cell of which all eight neighbours are on the grid
+pub record Inner (rows cols row col : ℕ) : Type 0 where
+  pub has-above : 1 ≤ row
+  pub has-below : row + 1 < rows
+  pub has-left : 1 ≤ col
+  pub has-right : col + 1 < cols

@@ -3,11 +3,12 @@ use lengths::Length;
 use lengths::Step;
 use lengths::wide;
 ghost use mathlib.Core.Path.{_≡_};
+ghost use mathlib.Core.Bool.{true};
 ghost use Prim.Native.Nat.{_*_, _+_, _≤_, _<_, _^_};
 ghost use Rattle.ground.specs.Lists.{sumOf};
 ghost use Rattle.ground.specs.Grid.{gridOf, inflowRecord};
 ghost use Rattle.ground.specs.Moves.{byMove, leadOf, InReach, Spotted, OnGrid, WalkedOn};
-ghost use Rattle.ground.specs.Moves.{dirAt, nearBy, neighbourOf, HasCell, valueAt};
+ghost use Rattle.ground.specs.Moves.{dirAt, nearBy, neighbourOf, HasCell, Inner, valueAt};
 
 // A step: the change of row and of column, each plus one so that no number is negative, and whether it is straight or
 // diagonal.
@@ -212,6 +213,68 @@ fn inflow_at(
     }
 }
 
+// Is it an inner cell, with all eight neighbours on the grid?
+fn is_inner(rows: usize, cols: usize, row: usize, col: usize) -> bool
+    requires { ⌜ (row < rows) × (col < cols) ⌝ }
+    ensures { λ r. ⌜ (r ≡ true → Inner rows cols row col) ⌝ }
+{
+    if row < 1 {
+        return false;
+    }
+    if col < 1 {
+        return false;
+    }
+    if rows <= row + 1 {
+        return false;
+    }
+    col + 1 < cols
+}
+
+// What flows in from neighbour k of an inner cell: no border is tested.
+fn inner_inflow_at(
+    rows: usize,
+    cols: usize,
+    codes: &[u8],
+    accumulation: &[u32],
+    row: usize,
+    col: usize,
+    k: usize,
+) -> u32
+    requires { ⌜ HasCell rows cols (now codes) (now accumulation) row col × Inner rows cols row col ⌝ }
+    ensures { λ r. ⌜ r
+        ≡ valueAt (gridOf rows cols (now (codes .entry))) (now (accumulation .entry)) (row * cols + col) k ⌝ }
+{
+    let n = neighbour_at(k);
+    let at = (row + n.row - 1) * cols + (col + n.col - 1);
+    let back = n.back;
+    if codes[at] != back {
+        return 0;
+    }
+    accumulation[at]
+}
+
+// The inflow record of an inner cell.
+fn inner_inflows(
+    rows: usize,
+    cols: usize,
+    codes: &[u8],
+    accumulation: &[u32],
+    row: usize,
+    col: usize,
+) -> Inflows
+    requires { ⌜ HasCell rows cols (now codes) (now accumulation) row col × Inner rows cols row col ⌝ }
+    ensures { λ r. ⌜ r .values
+        ≡ inflowRecord (gridOf rows cols (now (codes .entry))) (now (accumulation .entry)) (row * cols + col) ⌝ }
+{
+    let mut values = [0u32; 8];
+    let mut j: usize = 0;
+    while j < 8 {
+        values[j] = inner_inflow_at(rows, cols, codes, accumulation, row, col, j);
+        j += 1;
+    }
+    Inflows { values }
+}
+
 // The inflow record of a cell.
 pub fn inflows_of(
     rows: usize,
@@ -225,6 +288,9 @@ pub fn inflows_of(
     ensures { λ r. ⌜ r .values
         ≡ inflowRecord (gridOf rows cols (now (codes .entry))) (now (accumulation .entry)) (row * cols + col) ⌝ }
 {
+    if is_inner(rows, cols, row, col) {
+        return inner_inflows(rows, cols, codes, accumulation, row, col);
+    }
     let mut values = [0u32; 8];
     let mut k: usize = 0;
     while k < 8 {
