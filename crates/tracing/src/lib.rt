@@ -101,7 +101,7 @@ fn by_recursion(
         ≡ overlaid (tracing dropping (gridOf rows cols (now (codes .entry))) (now (outlets .entry))
         (getD (now (outlets .entry)) place 0) .starts) (now (starts .entry)) ⌝ }
 {
-    let at = index_of(outlets[place]);
+    let outlet = index_of(outlets[place]);
     let mut found = [0u32; 4096];
     let p = recursion::trace(
         rows,
@@ -110,8 +110,8 @@ fn by_recursion(
         outlets,
         subs,
         dropping,
-        at / cols,
-        at % cols,
+        outlet / cols,
+        outlet % cols,
         &mut found,
     );
     list_starts(&found, 4096, p.paths, starts);
