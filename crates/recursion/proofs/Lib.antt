@@ -1,2 +1,3 @@
 pub mod Turning
-pub mod Cycle
+pub mod Cell
+pub mod Inflows

@@ -5,7 +5,7 @@ use mathlib.Core.Bool.{Bool, true}
 use mathlib.Core.List.{List}
 use mathlib.Core.Option.{Option, none, some}
 use Prim.Native.Nat.{ℕ, _+_, _*_, _≤_, _<_}
-use lib.ListN.{length, drop}
+use lib.ListN.{length, getD, drop}
 use Rattle.lengths.specs.declared.Step.{Step}
 use Rattle.lengths.specs.declared.Length.{Length}
 use Rattle.ground.specs.Compass.{Dir, dirs, opposite, stepOf, squares}
@@ -23,7 +23,7 @@ unfoldable pub stepFrom : ℕ → Step
 stepFrom k = stepOf (opposite (dirAt k))
 
 -- the next direction, from k on, in which there is something to turn to
-pub record NextTurn (rows cols : ℕ) (codes outlets : List ℕ) (row col k : ℕ) (r : Turn) : Type 0 where
+pub record NextTurn (rows cols : ℕ) (codes outlets subs : List ℕ) (row col k : ℕ) (r : Turn) : Type 0 where
   pub from : k ≤ r .k
   pub last : r .k ≤ 8
   pub skipped : (i : ℕ) → k ≤ i → i < r .k → inflowIn (gridOf rows cols codes) outlets (row * cols + col) (dirAt i) ≡ none
@@ -31,30 +31,32 @@ pub record NextTurn (rows cols : ℕ) (codes outlets : List ℕ) (row col k : �
       ≡ some (r .row * cols + r .col)
   pub row-in : r .k < 8 → r .row < rows
   pub col-in : r .k < 8 → r .col < cols
+  pub counted : r .k < 8 → r .cells ≡ getD subs (r .row * cols + r .col) 0
 
 -- the search has this many cells to go at most, of the 4,096 for which there is room; lengths are no more than cells
-pub record Bounded (cells steps : ℕ) (p : Progress) (found : List ℕ) : Type 0 where
-  pub room : length found ≡ 4096
+pub record Bounded (cells steps : ℕ) (p : Progress) : Type 0 where
   pub cells-fit : p .visited + p .dropped + cells ≤ 4096
   pub steps-fit : steps + cells ≤ 4096
   pub few-paths : p .paths ≤ p .visited
 
 pub record CellReady (rows cols : ℕ) (codes outlets : List ℕ) (row col : ℕ) (len : Length) (p : Progress)
     (found : List ℕ) : Type 0 where
+  pub room : length found ≡ 4096
   pub row-in : row < rows
   pub col-in : col < cols
   pub solid : ground (gridOf rows cols codes) (row * cols + col) ≡ true
   pub bounded : Bounded (subaccumulation (gridOf rows cols codes) outlets (row * cols + col))
-      (len .straight + len .diagonal) p found
+      (len .straight + len .diagonal) p
 
 pub record InflowsReady (rows cols : ℕ) (codes outlets : List ℕ) (row col : ℕ) (len : Length) (k : ℕ) (p : Progress)
     (found : List ℕ) : Type 0 where
+  pub room : length found ≡ 4096
   pub row-in : row < rows
   pub col-in : col < cols
   pub solid : ground (gridOf rows cols codes) (row * cols + col) ≡ true
   pub within : k ≤ 8
   pub bounded : Bounded (cellsIn (gridOf rows cols codes) outlets (drop k dirs) (row * cols + col))
-      (len .straight + len .diagonal + 1) p found
+      (len .straight + len .diagonal + 1) p
 
 -- so many cells were visited or dropped
 pub record Counted (cells : ℕ) (p r : Progress) : Type 0 where
@@ -67,6 +69,7 @@ pub record CellTraced (rows cols : ℕ) (codes outlets : List ℕ) (dropping : B
   pub state : _≡_ {A = State squares} (stateOf r new 4096)
       (enter squares (firstRule squares dropping) (gridOf rows cols codes) outlets (row * cols + col) len
       (stateOf p old 4096))
+  pub room : length new ≡ 4096
   pub counted : Counted (subaccumulation (gridOf rows cols codes) outlets (row * cols + col)) p r
 
 -- the neighbours from k on were turned to
@@ -75,4 +78,5 @@ pub record InflowsTraced (rows cols : ℕ) (codes outlets : List ℕ) (dropping 
   pub state : _≡_ {A = State squares} (stateOf r new 4096)
       (turnTo squares (firstRule squares dropping) (gridOf rows cols codes) outlets (drop k dirs) (row * cols + col)
       len (stateOf p old 4096))
+  pub room : length new ≡ 4096
   pub counted : Counted (cellsIn (gridOf rows cols codes) outlets (drop k dirs) (row * cols + col)) p r

@@ -8,44 +8,55 @@ use borrow.Author.Needs.{needs}
 use Rattle.ground.specs.Grid.{gridOf}
 use Rattle.ground.specs.Moves.{spotCell, dirAt}
 use Rattle.search.specs.Neighbours.{inflowIn}
-use Rattle.recursion.proofs.Turning.{one-further}
+use Rattle.recursion.proofs.Turning.{one-further, cell-fits}
 use Rattle.recursion.proofs.next_turn.Statement.{statement}
 use Rattle.recursion.proofs.next_turn.Tie as tie
 
 abbrev Inv-loop : tie.InvT-loop
-Inv-loop rows cols codes outlets row col k n₀ n =
+Inv-loop rows cols codes outlets subs row col k n₀ n =
     (k ≤ n)
     × (n ≤ 8)
     × ((i : ℕ) → k ≤ i → i < n → inflowIn (gridOf rows cols codes) outlets (row * cols + col) (dirAt i) ≡ none)
 
 abbrev μ-loop : tie.MeasureT-loop
-μ-loop rows cols codes outlets row col k n₀ n = 8 - n
+μ-loop rows cols codes outlets subs row col k n₀ n = 8 - n
 
 loop-holds : tie.Need-loop-holds Inv-loop μ-loop
-loop-holds c = (omega arith, c .before .before .pre .1, λ i h l. absurd (omega arith))
+loop-holds c = (omega arith, c .before .before .before .pre .2, λ i h l. absurd (omega arith))
 
 add-n : tie.Need-add-n Inv-loop μ-loop
 add-n c = search needs
 
 inflow-from-requires : tie.Need-inflow-from-requires Inv-loop μ-loop
-inflow-from-requires c κs = c .before .before .before .before .pre .0
+inflow-from-requires c κs = c .before .before .before .before .before .pre .0
 
 enum-known-r : tie.Need-enum-known-r Inv-loop μ-loop
 enum-known-r c = search needs
 
-returns : tie.Need-returns Inv-loop μ-loop
-returns c =
-    let l = c .before .before .before .before .before .loop in
+cells-at-requires : tie.Need-cells-at-requires Inv-loop μ-loop
+cells-at-requires c κs =
+    let s = c .before .before .before .before .before .before .before .before .before in
+    let a = s .args in
     let f = c .before .before .before .inflow-from .ensures in
     let g = c .before .r .given in
+    let fits = cell-fits (a .rows) (a .cols) (g .0 .0) (g .0 .1 .0) (s .pre .0 .rows-small) (s .pre .0 .cols-small)
+    (f .row-in (g .0 .0) (g .0 .1 .0) (g .1)) (f .col-in (g .0 .0) (g .0 .1 .0) (g .1)) in
+    (omega (arith, fits, s .pre .1), omega (arith, fits))
+
+returns : tie.Need-returns Inv-loop μ-loop
+returns c =
+    let l = c .before .before .before .before .before .before .loop in
+    let f = c .before .before .before .before .inflow-from .ensures in
+    let g = c .before .before .r .given in
     record {
       from = l .inv .0;
       last = l .inv .1;
       skipped = l .inv .2;
       there = λ h. sym (f .is-cell)
-          ∙ ap (spotCell (c .before .before .before .before .before .before .before .before .args .cols)) (g .1);
+          ∙ ap (spotCell (c .before .before .before .before .before .before .before .before .before .before .args .cols)) (g .1);
       row-in = λ h. f .row-in (g .0 .0) (g .0 .1 .0) (g .1);
       col-in = λ h. f .col-in (g .0 .0) (g .0 .1 .0) (g .1);
+      counted = λ h. c .cells-at .ensures;
     }
 
 enum-told : tie.Need-enum-told Inv-loop μ-loop
@@ -57,7 +68,7 @@ loop-less c = search needs
 loop-again : tie.Need-loop-again Inv-loop μ-loop
 loop-again c =
     let l = c .before .before .before .before .loop in
-    let a = c .before .before .before .before .before .before .before .args in
+    let a = c .before .before .before .before .before .before .before .before .args in
     let f = c .before .before .inflow-from .ensures in (
       omega arith,
       omega arith,
@@ -77,6 +88,7 @@ returns-2 c =
       there = λ h. absurd (omega arith);
       row-in = λ h. absurd (omega arith);
       col-in = λ h. absurd (omega arith);
+      counted = λ h. absurd (omega arith);
     }
 
 pub next-turn-spec : {M : Type 1} → statement M
@@ -89,6 +101,7 @@ next-turn-spec =
     add-n
     inflow-from-requires
     enum-known-r
+    cells-at-requires
     returns
     enum-told
     loop-less

@@ -30,9 +30,6 @@ div-trace c = search needs
 rem-trace : tie.Need-rem-trace
 rem-trace c = search needs
 
-slice-aggregate-trace : tie.Need-slice-aggregate-trace
-slice-aggregate-trace c = search needs
-
 trace-requires : tie.Need-trace-requires
 trace-requires c κs =
     let s = c .before .before .before .before .before .before .before in
@@ -47,7 +44,7 @@ trace-requires c κs =
     (s .pre .0, (on, (small, refl)))
 
 slice-aggregate-list-starts : tie.Need-slice-aggregate-list-starts
-slice-aggregate-list-starts c = search needs
+slice-aggregate-list-starts c = search (needs, c .before .trace .ensures .1)
 
 -- the search at the chosen outlet
 searched : (c : tie.After-trace) → let a = c .before .before .before .before .before .before .before .before .args in
@@ -59,14 +56,14 @@ searched c =
     subst (λ (x : ℕ). Searched (gridOf (a .rows) (a .cols) (a .codes .now)) (a .outlets .now) (a .dropping) x 4096
     (c .trace .result) (c .trace .last .1 .1 .1 .1 .1 .1 .1 .1 .0))
     (ap (λ (x : ℕ). x / a .cols * a .cols + x % a .cols) (c .before .before .index-of .ensures .0)
-    ∙ row-col (s .pre .0) (s .pre .1 .0)) (c .trace .ensures)
+    ∙ row-col (s .pre .0) (s .pre .1 .0)) (c .trace .ensures .0)
 
 list-starts-requires : tie.Need-list-starts-requires
 list-starts-requires c κs =
-    let t = c .before .before .before in
+    let t = c .before .before in
     let q = searched t in
     let s = t .before .before .before .before .before .before .before .before in
-    (omega (arith, q .few-paths, q .all-cells, s .pre .1 .1), omega arith)
+    (omega (arith, q .few-paths, q .all-cells, s .pre .1 .1), omega (arith, t .trace .ensures .1))
 
 told-requires : tie.Need-told-requires
 told-requires c κs = search needs
@@ -77,7 +74,7 @@ same-length c = search needs
 returns : tie.Need-returns
 returns c =
     let l = c .before .before .before in
-    let t = l .before .before .before .before in
+    let t = l .before .before .before in
     let s = t .before .before .before .before .before .before .before .before in (
       answer-tells (s .pre .0) (s .pre .1 .0) (searched t) (length (s .args .starts .now))
           (c .told .ensures ∙ ap (λ (n : ℕ). toldWith (tracingOf (t .trace .result) []) n)
@@ -94,7 +91,6 @@ by-recursion-spec =
     index-of-requires
     div-trace
     rem-trace
-    slice-aggregate-trace
     trace-requires
     slice-aggregate-list-starts
     list-starts-requires

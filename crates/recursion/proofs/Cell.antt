@@ -1,0 +1,130 @@
+-- A cell is entered: what its visit makes of the search, and what its inflows make of the rest.
+-- Assumes nothing.
+use mathlib.Core.Path.{_≡_, sym, ap, _∙_, subst}
+use mathlib.Core.Bool.{Bool, true}
+use mathlib.Core.List.{List}
+use Prim.Native.Nat.{ℕ, suc, _+_, _*_, _≤_, _<_, _^_}
+use native.Mathlib.Omega.{arith}
+use lib.ListN.{length, getD}
+use lib.Arith.{digits-lt}
+use lib.Dec.{eqb}
+use Rattle.lengths.specs.declared.Length.{Length}
+use Rattle.lengths.specs.Rule.{counts}
+use Rattle.ground.specs.Compass.{dirs, squares}
+use Rattle.ground.specs.Grid.{Grid, gridOf, ground}
+use Rattle.ground.specs.Accumulation.{subaccumulation}
+use Rattle.ground.specs.Forest.{forest}
+use Rattle.ground.proofs.Ground.{sub-size}
+use Rattle.search.specs.Search.{State, meetIf, Rule, firstRule, visit}
+use Rattle.search.specs.Neighbours.{cellsIn, turnTo, enter}
+use Rattle.search.proofs.Neighbours.{visit-is, cells-above, search-enters}
+use Rattle.progress.specs.declared.Progress.{Progress}
+use Rattle.progress.specs.Starts.{kept, begun, startAt, startsOf, stateOf, Visited}
+use Rattle.upstream.specs.Ready.{Ready, AtOutlet, Searched}
+use Rattle.recursion.specs.Tracing.{Bounded, CellReady, InflowsReady, Counted, CellTraced, InflowsTraced}
+use Rattle.recursion.proofs.Turning.{cell-fits}
+
+module _ {rows cols : ℕ} {codes outlets subs : List ℕ} (ready : Ready rows cols codes outlets subs) where
+  abbrev g : Grid
+  g = gridOf rows cols codes
+
+  abbrev sub : ℕ → ℕ
+  sub x = subaccumulation g outlets x
+
+  -- the number of cells that the source reads
+  pub cells-read : (row col : ℕ) → row < rows → col < cols → getD subs (row * cols + col) 0 ≡ sub (row * cols + col)
+  cells-read row col h k = ready .filled (row * cols + col) (digits-lt h k)
+
+  module _ {row col : ℕ} {len : Length} {p : Progress} {old : List ℕ}
+      (cell : CellReady rows cols codes outlets row col len p old) where
+    abbrev x : ℕ
+    x = row * cols + col
+
+    -- a cell of ground has a place in the lent list, and the record has room for it
+    pub has-place : (x < length subs) × (x < 2 ^ 24)
+    has-place =
+        let f = cell-fits rows cols row col (ready .rows-small) (ready .cols-small) (cell .row-in) (cell .col-in) in
+        (omega (arith, f, ready .has-subs), omega (arith, f))
+
+    pub has-room : (p .paths < 4096) × (p .visited < 4096)
+    has-room =
+        let b = cell .bounded in
+        let s = sub-size g (ready .lent) (ready .agreed) outlets x (cell .solid) in (omega arith, omega arith)
+
+    above : suc (cellsIn g outlets dirs x) ≡ sub x
+    above = cells-above g (ready .lent) (ready .agreed) outlets x (cell .solid)
+
+    module _ {q : Progress} {mid : List ℕ} (v : Visited old mid 4096 x (getD subs x 0) len p q
+        × (length mid ≡ length old)) where
+      visited-one : q .visited ≡ p .visited + 1
+      visited-one = ap (λ (st : State squares). st .visited) (v .0 .state)
+
+      dropped-none : q .dropped ≡ p .dropped
+      dropped-none = ap (λ (st : State squares). st .dropped) (v .0 .state)
+
+      pub inflows-ready : InflowsReady rows cols codes outlets row col len 0 q mid
+      inflows-ready = let b = cell .bounded in record {
+        room = v .1 ∙ cell .room;
+        row-in = cell .row-in;
+        col-in = cell .col-in;
+        solid = cell .solid;
+        within = omega arith;
+        bounded = record {
+          cells-fit = omega (arith, visited-one, dropped-none, above);
+          steps-fit = omega (arith, above);
+          few-paths = omega (arith, visited-one, v .0 .few);
+        };
+      }
+
+      pub cell-traced : (dropping : Bool) (r : Progress) (new : List ℕ)
+          → InflowsTraced rows cols codes outlets dropping row col len 0 q mid r new
+          → CellTraced rows cols codes outlets dropping row col len p old r new
+      unfolding enter
+      cell-traced dropping r new t = record {
+        state = t .state ∙ ap (turnTo squares rule g outlets dirs x len) (v .0 .state
+            ∙ sym (seen ∙ ap (λ (m : ℕ). met m) (sym (cells-read row col (cell .row-in) (cell .col-in)))));
+        room = t .room;
+        counted = record {
+          cells-done = omega (arith, t .counted .cells-done, visited-one, dropped-none, above);
+          few-paths = t .counted .few-paths;
+        };
+      }
+        where
+          rule : Rule squares
+          rule = firstRule squares dropping
+
+          met : ℕ → State squares
+          met m = record {
+            starts = meetIf squares (eqb m 1) (startsOf p old 4096) (startAt len x);
+            visited = p .visited + 1;
+            dropped = p .dropped;
+          }
+
+          seen : visit squares rule (stateOf p old 4096) x len (forest g outlets x) ≡ met (sub x)
+          seen = visit-is squares dropping g outlets (ready .lent) (ready .agreed) (stateOf p old 4096) x len
+              (cell .solid)
+
+  -- ---- the whole search
+
+  module _ {row col : ℕ} (at : AtOutlet rows cols codes row col) {p : Progress} (nothing : p ≡ begun) where
+    pub outlet-ready : (old : List ℕ) → sub (row * cols + col) ≤ 4096 → length old ≡ 4096
+        → CellReady rows cols codes outlets row col (counts 0 0) p old
+    outlet-ready old h e = record {
+      room = e;
+      row-in = at .row-in;
+      col-in = at .col-in;
+      solid = at .solid;
+      bounded = rw nothing (record { cells-fit = omega arith; steps-fit = omega arith; few-paths = omega arith });
+    }
+
+    pub searched : (dropping : Bool) (old : List ℕ) (r : Progress) (new : List ℕ)
+        → CellTraced rows cols codes outlets dropping row col (counts 0 0) p old r new
+        → Searched g outlets dropping (row * cols + col) 4096 r new
+    unfolding kept
+    searched dropping old r new t = let c = subst (λ q. CellTraced rows cols codes outlets dropping row col (counts 0 0)
+        q old r new) nothing t in record {
+          state = c .state ∙ sym (search-enters squares (firstRule squares dropping) g outlets (ready .lent) (ready .agreed)
+              (row * cols + col) (at .solid));
+          all-cells = omega (arith, c .counted .cells-done);
+          few-paths = c .counted .few-paths;
+        }
