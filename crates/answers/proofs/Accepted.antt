@@ -1,7 +1,7 @@
 -- DEMAND 3 holds on every call that reaches the search: accepted, or refused with 21 after all checks before it.
 -- Assumes nothing.
 use mathlib.Core.Path.{_≡_, refl, sym, ap, _∙_, subst}
-use mathlib.Core.Bool.{Bool, true, false, cond, not, _&&_, _||_, true≢false, or-true}
+use mathlib.Core.Bool.{Bool, true, false, cond, not, _&&_, _||_, or-true}
 use mathlib.Core.Logic.{_⊎_, inl, inr}
 use mathlib.Core.List.{List, [], _∷_, _++_, append-assoc}
 use Prim.Native.Nat.{ℕ, zero, suc, _+_, _*_, _≤_, _<_}
@@ -9,6 +9,7 @@ use native.Mathlib.Omega.{arith}
 use lib.ListN.{length, getD, take, drop, length-append, length-take, length-drop}
 use lib.Dec.{eqb, ltb}
 use borrow.Author.Tests.{eq-eqb, ltb-true}
+use Rattle.ground.proofs.Lists.{and-both}
 use Rattle.ground.specs.Lists.{Every, member}
 use Rattle.ground.specs.Grid.{Grid, gridOf, places, ground}
 use Rattle.ground.specs.Accumulation.{agrees}
@@ -50,10 +51,6 @@ all-passed n (c ∷ cs) ds k e = go (c .passes) refl (all-passed n cs ds (k .1))
         → Every (λ d. d .passes ≡ true) (c ∷ cs)
     go true p ih = (p, ih (sym (rw p) ∙ e))
     go false p ih = absurd (k .0 (sym (rw p) ∙ e))
-
-and-both : (a b : Bool) → (a && b) ≡ true → (a ≡ true) × (b ≡ true)
-and-both true b h = (refl, h)
-and-both false b h = absurd (true≢false (sym h))
 
 -- an element of a list of which all pass
 all-at : (f : ℕ → Bool) (xs : List ℕ) → allPass f xs ≡ true → (i : ℕ) → i < length xs → f (getD xs i 0) ≡ true

@@ -20,7 +20,7 @@ use Rattle.search.specs.Neighbours.{cellsIn, turnTo, enter}
 use Rattle.search.proofs.Neighbours.{visit-is, cells-above, search-enters}
 use Rattle.progress.specs.declared.Progress.{Progress}
 use Rattle.progress.specs.Starts.{kept, begun, startAt, startsOf, stateOf, Visited}
-use Rattle.upstream.specs.Ready.{Ready, AtOutlet, Searched}
+use Rattle.upstream.specs.Ready.{Ready, OnGround, Searched}
 use Rattle.recursion.specs.Tracing.{Bounded, CellReady, InflowsReady, Counted, CellTraced, InflowsTraced}
 use Rattle.recursion.proofs.Turning.{cell-fits}
 
@@ -106,7 +106,7 @@ module _ {rows cols : ℕ} {codes outlets subs : List ℕ} (ready : Ready rows c
 
   -- ---- the whole search
 
-  module _ {row col : ℕ} (at : AtOutlet rows cols codes row col) {p : Progress} (nothing : p ≡ begun) where
+  module _ {row col : ℕ} (at : OnGround rows cols codes row col) {p : Progress} (nothing : p ≡ begun) where
     pub outlet-ready : (old : List ℕ) → sub (row * cols + col) ≤ 4096 → length old ≡ 4096
         → CellReady rows cols codes outlets row col (counts 0 0) p old
     outlet-ready old h e = record {

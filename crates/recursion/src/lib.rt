@@ -16,7 +16,7 @@ ghost use Rattle.ground.specs.Grid.{gridOf};
 ghost use Rattle.ground.specs.Accumulation.{subaccumulation};
 ghost use Rattle.progress.specs.Starts.{Visited};
 ghost use Rattle.upstream.specs.Turns.{OnCell};
-ghost use Rattle.upstream.specs.Ready.{Ready, AtOutlet, Searched};
+ghost use Rattle.upstream.specs.Ready.{Ready, OnGround, Searched};
 ghost use Rattle.recursion.specs.Tracing.{stepFrom, NextTurn, CellReady, InflowsReady, CellTraced, InflowsTraced};
 
 // Where the search turns to next: neighbour k, at a row and a column, with so many cells. No neighbour is left where k is 8.
@@ -224,7 +224,7 @@ pub fn trace(
     found: &mut [u32; 4096],
 ) -> Progress
     requires { ⌜ Ready rows cols (now codes) (now outlets) (now subs) ⌝ }
-    requires { ⌜ AtOutlet rows cols (now codes) row col ⌝ }
+    requires { ⌜ OnGround rows cols (now codes) row col ⌝ }
     requires { ⌜ subaccumulation (gridOf rows cols (now codes)) (now outlets) (row * cols + col) ≤ 4096 ⌝ }
     requires { ⌜ length (now found) ≡ 4096 ⌝ }
     ensures { λ r. ⌜ Searched (gridOf rows cols (now (codes .entry))) (now (outlets .entry)) dropping (row * cols + col) 4096 r (now (found .exit)) × (length (now (found .exit)) ≡ 4096) ⌝ }

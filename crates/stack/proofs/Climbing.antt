@@ -20,14 +20,14 @@ use Rattle.ground.proofs.Ground.{sub-places}
 use Rattle.search.specs.Neighbours.{inflowIn, cellsOf, cellsIn}
 use Rattle.search.proofs.Neighbours.{cells-above}
 use Rattle.upstream.specs.Turns.{OnCell}
-use Rattle.upstream.specs.Ready.{Ready, AtOutlet}
+use Rattle.upstream.specs.Ready.{Ready, OnGround}
 use Rattle.stack.specs.declared.Pending.{Pending}
 use Rattle.stack.specs.Pending.{onTop, inflowsAbove}
 use Rattle.stack.specs.Draining.{Waits, cellsPending}
 use Rattle.stack.proofs.Above.{Follows, follows, few-pending, some-cells}
 
 module _ {rows cols : ℕ} {codes outlets subs : List ℕ} (ready : Ready rows cols codes outlets subs) {row col : ℕ}
-    (at : AtOutlet rows cols codes row col) where
+    (at : OnGround rows cols codes row col) where
   abbrev g : Grid
   g = gridOf rows cols codes
 

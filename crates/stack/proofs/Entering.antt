@@ -18,7 +18,7 @@ use Rattle.search.proofs.Neighbours.{visit-is}
 use Rattle.progress.specs.declared.Progress.{Progress}
 use Rattle.progress.specs.Starts.{startAt, startsOf, stateOf, Room, Visited}
 use Rattle.progress.proofs.Kept.{kept-same}
-use Rattle.upstream.specs.Ready.{Ready, AtOutlet}
+use Rattle.upstream.specs.Ready.{Ready, OnGround}
 use Rattle.stack.specs.declared.Pending.{Pending}
 use Rattle.stack.specs.declared.Stack.{Stack}
 use Rattle.stack.specs.Pending.{pending, inflowsAbove, PutOn}
@@ -28,7 +28,7 @@ use Rattle.stack.proofs.Above.{cells-append, all-append, drain-append}
 use Rattle.stack.proofs.Climbing.{one-cell, cells-but-one, all-above, few-above, followed}
 
 module _ {rows cols : ℕ} {codes outlets subs : List ℕ} (ready : Ready rows cols codes outlets subs) {row col : ℕ}
-    (at : AtOutlet rows cols codes row col) where
+    (at : OnGround rows cols codes row col) where
   abbrev g : Grid
   g = gridOf rows cols codes
 

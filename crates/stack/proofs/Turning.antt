@@ -24,7 +24,7 @@ use Rattle.search.proofs.Neighbours.{search-enters}
 use Rattle.progress.specs.declared.Progress.{Progress}
 use Rattle.progress.specs.Starts.{kept, begun, startAt, stateOf}
 use Rattle.progress.proofs.Kept.{kept-length}
-use Rattle.upstream.specs.Ready.{Ready, AtOutlet}
+use Rattle.upstream.specs.Ready.{Ready, OnGround}
 use Rattle.stack.specs.declared.Pending.{Pending}
 use Rattle.stack.specs.declared.Stack.{Stack}
 use Rattle.stack.specs.Pending.{pendingAt, pending}
@@ -87,7 +87,7 @@ module _ {rows cols : ℕ} {codes outlets subs : List ℕ} (ready : Ready rows c
       unfolding cellsPending
       cells = ap (cellsPending g outlets) opened
 
-      pub on-ground : AtOutlet rows cols codes (w .row) (w .col)
+      pub on-ground : OnGround rows cols codes (w .row) (w .col)
       on-ground = record { row-in = wait .0 .row-in; col-in = wait .0 .col-in; solid = wait .0 .solid }
 
       pub small-length : w .below .straight + w .below .diagonal < 2 ^ 24
@@ -183,7 +183,7 @@ module _ {rows cols : ℕ} {codes outlets subs : List ℕ} (ready : Ready rows c
 
   -- ---- the whole search
 
-  module _ {row col : ℕ} (at : AtOutlet rows cols codes row col) where
+  module _ {row col : ℕ} (at : OnGround rows cols codes row col) where
     abbrev o : ℕ
     o = row * cols + col
 

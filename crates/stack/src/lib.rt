@@ -22,7 +22,7 @@ ghost use Rattle.ground.specs.Grid.{gridOf};
 ghost use Rattle.ground.specs.Accumulation.{subaccumulation};
 ghost use Rattle.ground.specs.Moves.{leadOf};
 ghost use Rattle.upstream.specs.Turns.{OnCell};
-ghost use Rattle.upstream.specs.Ready.{Ready, AtOutlet, Searched};
+ghost use Rattle.upstream.specs.Ready.{Ready, OnGround, Searched};
 ghost use Rattle.stack.specs.Pending.{pendingAt, pendingWith, inflowsAbove, PutOn};
 ghost use Rattle.stack.specs.Draining.{stepBy, Fits, Entered, Standing, Turned, Traced};
 
@@ -121,7 +121,7 @@ fn climb(
     work: &mut [u32],
 ) -> usize
     requires { ⌜ Ready rows cols (now codes) (now outlets) (now subs) ⌝ }
-    requires { ⌜ AtOutlet rows cols (now codes) row col ⌝ }
+    requires { ⌜ OnGround rows cols (now codes) row col ⌝ }
     requires { ⌜ (n ≡ subaccumulation (gridOf rows cols (now codes)) (now outlets) (row * cols + col)) × (3 * (top + n) ≤ length (now work)) ⌝ }
     ensures { λ r. ⌜ PutOn (inflowsAbove (gridOf rows cols (now (codes .entry))) (now (outlets .entry)) (row * cols + col) len dirs) top (now (work .entry)) r (now (work .exit)) ⌝ }
 {
@@ -151,7 +151,7 @@ fn enter_cell(
     work: &mut [u32],
 ) -> Stack
     requires { ⌜ Ready rows cols (now codes) (now outlets) (now subs) ⌝ }
-    requires { ⌜ AtOutlet rows cols (now codes) row col ⌝ }
+    requires { ⌜ OnGround rows cols (now codes) row col ⌝ }
     requires { ⌜ Fits (subaccumulation (gridOf rows cols (now codes)) (now outlets) (row * cols + col)) end p top (now work) ⌝ }
     ensures { λ r. ⌜ Entered (gridOf rows cols (now (codes .entry))) (now (outlets .entry)) (row * cols + col) len end p top (now (work .entry)) r (now (work .exit)) ⌝ }
 {
@@ -251,7 +251,7 @@ pub fn trace(
     work: &mut [u32],
 ) -> Progress
     requires { ⌜ Ready rows cols (now codes) (now outlets) (now subs) ⌝ }
-    requires { ⌜ AtOutlet rows cols (now codes) row col ⌝ }
+    requires { ⌜ OnGround rows cols (now codes) row col ⌝ }
     requires { ⌜ 3 * subaccumulation (gridOf rows cols (now codes)) (now outlets) (row * cols + col) ≤ length (now work) ⌝ }
     ensures { λ r. ⌜ Traced (gridOf rows cols (now (codes .entry))) (now (outlets .entry)) dropping (row * cols + col) (now (work .entry)) r (now (work .exit)) ⌝ }
 {

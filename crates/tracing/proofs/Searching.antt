@@ -17,7 +17,7 @@ use Rattle.search.proofs.Demand3.{demand3}
 use Rattle.progress.specs.declared.Progress.{Progress}
 use Rattle.progress.specs.Starts.{kept, startAt, stateOf}
 use Rattle.progress.proofs.Kept.{kept-length}
-use Rattle.upstream.specs.Ready.{Ready, AtOutlet, Searched}
+use Rattle.upstream.specs.Ready.{Ready, OnGround, Searched}
 use Rattle.answers.specs.Entries.{overlaid}
 use Rattle.answers.specs.Tracings.{tracedBy}
 use Rattle.answers.specs.declared.Traced.{Traced}
@@ -64,7 +64,7 @@ module _ {rows cols : ℕ} {codes outlets subs : List ℕ} (ready : Ready rows c
   pub row-col : outlet / cols * cols + outlet % cols ≡ outlet
   row-col = div-add-mod' outlet cols
 
-  pub at-outlet : AtOutlet rows cols codes (outlet / cols) (outlet % cols)
+  pub at-outlet : OnGround rows cols codes (outlet / cols) (outlet % cols)
   at-outlet = record {
     row-in = div-lt-iff-lt-mul (chosen .some-cols) .1 (ground-within land outlet (chosen .solid));
     col-in = mod-lt outlet (chosen .some-cols);

@@ -16,10 +16,12 @@ ghost use Rattle.ground.specs.Accumulation.{subaccumulation};
 ghost use Rattle.search.specs.Tracing.{tracing};
 ghost use Rattle.progress.specs.Starts.{kept};
 ghost use Rattle.answers.specs.Entries.{overlaid, zeros};
-ghost use Rattle.answers.specs.Tracings.{recursionNumber, recursionAnswer, traceLeavesSub, traceLeavesStarts};
+ghost use Rattle.answers.specs.declared.Answer.the-variants.{NoPlace};
+ghost use Rattle.answers.specs.Tracings.{answered, recursionNumber, recursionAnswer, traceLeavesSub, traceLeavesStarts};
 ghost use Rattle.answers.specs.Tracings.{stackNumber, stackAnswer, traceLeavesWork};
 ghost use Rattle.upstream.specs.Ready.{Ready};
 ghost use Rattle.tracing.specs.Chosen.{Chosen};
+ghost use Rattle.tracing.specs.Preparing.{Prepares};
 ghost use Rattle.tracing.specs.Telling.{refusedWith, tracingOf, toldWith};
 
 // Refused before the search.
@@ -33,21 +35,30 @@ fn refused(number: u32) -> Traced
     }
 }
 
+// The list has no place for all.
+fn no_place(visited: u32, dropped: u32, paths: u32) -> Traced
+    ensures { λ r. ⌜ r ≡ answered visited dropped (NoPlace paths) ⌝ }
+{
+    Traced {
+        visited,
+        dropped,
+        answer: Answer::NoPlace { paths },
+    }
+}
+
 // What a search tells where the list has so many places.
 fn told(p: Progress, places: usize) -> Traced
     ensures { λ r. ⌜ r ≡ toldWith (tracingOf p []) places ⌝ }
 {
     let paths = p.paths;
+    let visited = p.visited;
+    let dropped = p.dropped;
     if places < index_of(paths) {
-        return Traced {
-            visited: p.visited,
-            dropped: p.dropped,
-            answer: Answer::NoPlace { paths },
-        };
+        return no_place(visited, dropped, paths);
     }
     Traced {
-        visited: p.visited,
-        dropped: p.dropped,
+        visited,
+        dropped,
         answer: Answer::Found {
             straight: p.greatest.straight,
             diagonal: p.greatest.diagonal,
@@ -145,8 +156,8 @@ fn by_stack(
         ≡ overlaid (zeros (3 * subaccumulation (gridOf rows cols (now (codes .entry))) (now (outlets .entry))
         (getD (now (outlets .entry)) place 0))) (now (work .entry)) ⌝ }
 {
-    let at = index_of(outlets[place]);
-    let end = 3 * index_of(subs[at]);
+    let own = index_of(outlets[place]);
+    let end = 3 * index_of(subs[own]);
     let p = stack::trace(
         rows,
         cols,
@@ -154,13 +165,55 @@ fn by_stack(
         outlets,
         subs,
         dropping,
-        at / cols,
-        at % cols,
+        own / cols,
+        own % cols,
         work,
     );
     list_starts(work, end, p.paths, starts);
     clear(end, work);
     told(p, starts.len())
+}
+
+// The first of 10 to 18 that fails, and else, once the grid is filled, the cells of the chosen subwatershed.
+pub struct Prepared {
+    pub number: u32,
+    pub cells: u32,
+}
+
+// What comes before either engine: 10, 11, 12, 14 to 18, and then the grid is filled.
+fn prepare(
+    rows: usize,
+    cols: usize,
+    codes: &[u8],
+    accumulation: &[u32],
+    outlets: &[u32],
+    place: usize,
+    subaccumulation: &mut [u32],
+) -> Prepared
+    ensures { λ r. ⌜ Prepares rows cols (now (codes .entry)) (now (accumulation .entry)) (now (outlets .entry)) place
+        (now (subaccumulation .entry)) r (now (subaccumulation .exit)) ⌝ }
+{
+    let first = chosen_number(
+        rows,
+        cols,
+        codes,
+        accumulation,
+        outlets,
+        place,
+        subaccumulation.len(),
+    );
+    if first != 0 {
+        return Prepared {
+            number: first,
+            cells: 0,
+        };
+    }
+    fill(rows, cols, codes, outlets, subaccumulation);
+    let at = index_of(outlets[place]);
+    Prepared {
+        number: 0,
+        cells: subaccumulation[at],
+    }
 }
 
 // Traces all longest paths to an outlet of the list, with or without dropping, by recursion: 10, 11, 12, 14 to 19, 21. The
@@ -190,21 +243,20 @@ pub fn trace_by_recursion(
         (recursionNumber dropping rows cols (now (codes .entry)) (now (accumulation .entry)) (now (outlets .entry)) place
         (now (subaccumulation .entry)) (now (starts .entry))) ⌝ }
 {
-    let number = chosen_number(
+    let ready = prepare(
         rows,
         cols,
         codes,
         accumulation,
         outlets,
         place,
-        subaccumulation.len(),
+        subaccumulation,
     );
+    let number = ready.number;
     if number != 0 {
         return refused(number);
     }
-    fill(rows, cols, codes, outlets, subaccumulation);
-    let at = index_of(outlets[place]);
-    if 4096 < subaccumulation[at] {
+    if 4096 < ready.cells {
         return refused(19);
     }
     by_recursion(
@@ -252,22 +304,21 @@ pub fn trace_by_stack(
         (now (subaccumulation .entry)) (now (starts .entry)) (now (work .entry)))
         (now (work .entry)) ⌝ }
 {
-    let number = chosen_number(
+    let ready = prepare(
         rows,
         cols,
         codes,
         accumulation,
         outlets,
         place,
-        subaccumulation.len(),
+        subaccumulation,
     );
+    let number = ready.number;
     if number != 0 {
         return refused(number);
     }
-    fill(rows, cols, codes, outlets, subaccumulation);
-    let at = index_of(outlets[place]);
-    let cells = index_of(subaccumulation[at]);
-    if work.len() < 3 * cells {
+    let cells = ready.cells;
+    if work.len() < 3 * index_of(cells) {
         return refused(20);
     }
     by_stack(

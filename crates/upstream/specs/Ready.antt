@@ -22,8 +22,8 @@ pub record Ready (rows cols : ℕ) (codes outlets subs : List ℕ) : Type 0 wher
   pub agreed : agrees (gridOf rows cols codes) lent ≡ true
   pub filled : (x : ℕ) → x < rows * cols → getD subs x 0 ≡ subaccumulation (gridOf rows cols codes) outlets x
 
--- the outlet that is traced
-pub record AtOutlet (rows cols : ℕ) (codes : List ℕ) (row col : ℕ) : Type 0 where
+-- a cell of ground, by its row and column
+pub record OnGround (rows cols : ℕ) (codes : List ℕ) (row col : ℕ) : Type 0 where
   pub row-in : row < rows
   pub col-in : col < cols
   pub solid : ground (gridOf rows cols codes) (row * cols + col) ≡ true

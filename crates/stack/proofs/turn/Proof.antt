@@ -3,7 +3,7 @@
 use mathlib.Core.Path.{ap, _∙_}
 use native.Mathlib.Omega.{arith}
 use Rattle.lengths.specs.Rule.{plusStep}
-use Rattle.upstream.specs.Ready.{AtOutlet}
+use Rattle.upstream.specs.Ready.{OnGround}
 use Rattle.stack.proofs.Climbing.{indexed, read, small-cells}
 use Rattle.stack.proofs.Turning.{places, on-ground, small-length, few-dropped, fits, turn-dropped, turn-entered}
 use borrow.Author.Needs.{needs}
@@ -14,7 +14,7 @@ use Rattle.stack.proofs.turn.Tie as tie
 abbrev start : tie.After-pending-at → tie.Start
 start c = c .before .before .before .before .before .before .before .before
 
-ground-there : (c : tie.After-pending-at) → AtOutlet (start c .args .rows) (start c .args .cols) (start c .args .codes .now)
+ground-there : (c : tie.After-pending-at) → OnGround (start c .args .rows) (start c .args .cols) (start c .args .codes .now)
     (c .pending-at .result .row) (c .pending-at .result .col)
 ground-there c =
     let s = start c in

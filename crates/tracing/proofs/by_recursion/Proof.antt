@@ -8,7 +8,7 @@ use lib.ListN.{length, getD}
 use mathlib.Core.List.{List, []}
 use Rattle.ground.specs.Grid.{gridOf}
 use Rattle.ground.specs.Accumulation.{subaccumulation}
-use Rattle.upstream.specs.Ready.{AtOutlet, Searched}
+use Rattle.upstream.specs.Ready.{OnGround, Searched}
 use Rattle.answers.proofs.Accepted.{overlaid-length}
 use Rattle.tracing.specs.Telling.{tracingOf, toldWith}
 use Rattle.tracing.proofs.Searching.{row-col, at-outlet, answer-tells, list-tells}
@@ -39,7 +39,7 @@ trace-requires c κs =
     let small = subst (λ (x : ℕ). subaccumulation g (a .outlets .now) (x / a .cols * a .cols + x % a .cols) ≤ 4096) e
     (subst (λ (y : ℕ). subaccumulation g (a .outlets .now) y ≤ 4096) (sym (row-col (s .pre .0) (s .pre .1 .0)))
     (s .pre .1 .1)) in
-    let on = subst (λ (x : ℕ). AtOutlet (a .rows) (a .cols) (a .codes .now) (x / a .cols) (x % a .cols)) e
+    let on = subst (λ (x : ℕ). OnGround (a .rows) (a .cols) (a .codes .now) (x / a .cols) (x % a .cols)) e
     (at-outlet (s .pre .0) (s .pre .1 .0)) in
     (s .pre .0, (on, (small, refl)))
 

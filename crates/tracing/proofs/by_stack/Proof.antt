@@ -8,7 +8,7 @@ use borrow.Author.Needs.{needs}
 use lib.ListN.{length, getD}
 use Rattle.ground.specs.Grid.{gridOf}
 use Rattle.ground.specs.Accumulation.{subaccumulation}
-use Rattle.upstream.specs.Ready.{AtOutlet, Searched}
+use Rattle.upstream.specs.Ready.{OnGround, Searched}
 use Rattle.stack.specs.Draining.{Traced}
 use Rattle.answers.specs.Entries.{overlaid, zeros}
 use Rattle.answers.proofs.Accepted.{overlaid-length}
@@ -55,7 +55,7 @@ trace-requires c κs =
     let a = s .args in
     let g = gridOf (a .rows) (a .cols) (a .codes .now) in
     let e = sym (c .before .before .before .index-of .ensures .0) in
-    let on = subst (λ (x : ℕ). AtOutlet (a .rows) (a .cols) (a .codes .now) (x / a .cols) (x % a .cols)) e
+    let on = subst (λ (x : ℕ). OnGround (a .rows) (a .cols) (a .codes .now) (x / a .cols) (x % a .cols)) e
     (at-outlet (s .pre .0) (s .pre .1 .0)) in
     let room = subst (λ (x : ℕ). 3 * subaccumulation g (a .outlets .now) (x / a .cols * a .cols + x % a .cols)
     ≤ length (a .work .now)) e

@@ -1,5 +1,6 @@
 -- `tracing::told` meets its contract.
 -- Assumes nothing.
+use mathlib.Core.Path.{_∙_}
 use native.Mathlib.Omega.{arith}
 use borrow.Author.Needs.{needs}
 use Rattle.tracing.proofs.Telling.{no-place, found}
@@ -9,10 +10,14 @@ use Rattle.tracing.proofs.told.Tie as tie
 index-of-requires : tie.Need-index-of-requires
 index-of-requires c κs = search needs
 
+no-place-requires : tie.Need-no-place-requires
+no-place-requires c κs = search needs
+
 returns : tie.Need-returns
 returns c =
-    let a = c .before .before .args in
-    no-place (a .p) (a .places) (omega (arith, c .if1 .taken, c .before .index-of .ensures .0))
+    let i = c .before .before in
+    let a = i .before .args in
+    c .no-place .ensures ∙ no-place (a .p) (a .places) (omega (arith, c .before .if1 .taken, i .index-of .ensures .0))
 
 returns-2 : tie.Need-returns-2
 returns-2 c =
@@ -20,4 +25,4 @@ returns-2 c =
     found (a .p) (a .places) (omega (arith, c .if1 .left, c .before .index-of .ensures .0))
 
 pub told-spec : {M : Type 1} → statement M
-told-spec = tie.close (tie.spec index-of-requires returns returns-2)
+told-spec = tie.close (tie.spec index-of-requires no-place-requires returns returns-2)
