@@ -1,11 +1,11 @@
--- `edges::main` keeps within its arrays.
+-- `edges::longest_rows` keeps within its arrays.
 -- Assumes nothing.
 use mathlib.Core.Path.{_≡_}
 use Prim.Native.Nat.{_-_, _≤_}
 use lib.ListN.{length}
 use borrow.Author.Needs.{needs}
-use Rattle.edges.proofs.main.Statement.{statement}
-use Rattle.edges.proofs.main.Tie as tie
+use Rattle.edges.proofs.longest_rows.Statement.{statement}
+use Rattle.edges.proofs.longest_rows.Tie as tie
 
 abbrev Inv-loop : tie.InvT-loop
 Inv-loop codes₀ i₀ codes i = (4096 ≤ i) × (i ≤ 8192) × (length codes ≡ 8192)
@@ -58,8 +58,8 @@ trace-row-requires-4 c κs = search needs
 returns : tie.Need-returns Inv-loop μ-loop
 returns c = search needs
 
-pub main-spec : {M : Type 1} → statement M
-main-spec =
+pub longest-rows-spec : {M : Type 1} → statement M
+longest-rows-spec =
     tie.close
     (tie.spec
     Inv-loop
