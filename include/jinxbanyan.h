@@ -1,0 +1,75 @@
+/* Jinxbanyan for C: flow paths on a D8 grid.
+
+   Each function returns the refusal number: 0 is acceptance. A slice is a pointer and a count of elements; slices of one
+   call must not overlap, and a pointer must not be null even where the count is 0. Refusals change nothing lent, but where
+   a comment says otherwise, and places beyond those an answer needs keep their contents.
+
+   10 rows or columns not 1 to 4,096       17 an outlet twice
+   11 a lent grid too short                18 the place is beyond the list of outlets
+   12 a code not among the nine            19 more than 4,096 cells, by recursion
+   13 a ring                               20 the working space too small
+   14 the accumulation does not agree      21 the list too short for the longest paths
+   15 no outlet, or more than 256          22 the start is not in the outlet's subwatershed
+   16 an outlet beyond the grid or null    23 the lent places too few
+   1 to 9 are a sheet's: see jb_read_sheet. */
+#ifndef JINXBANYAN_H
+#define JINXBANYAN_H
+
+#include <stddef.h>
+#include <stdint.h>
+
+#ifdef __cplusplus
+extern "C" {
+#endif
+
+/* 10, 11, 12, 13. Writes the accumulation in the first rows x cols places; 13 leaves zeros there. */
+uint32_t jb_accumulate(size_t rows, size_t cols, const uint8_t *codes, size_t codes_count, uint32_t *accumulation,
+                       size_t accumulation_count);
+
+/* 10, 11, 12, 14. Writes nothing. */
+uint32_t jb_check_accumulation(size_t rows, size_t cols, const uint8_t *codes, size_t codes_count,
+                               const uint32_t *accumulation, size_t accumulation_count);
+
+/* 10, 11, 12, 14 to 17. Writes the subaccumulation in the first rows x cols places. An outlet is its cell number. */
+uint32_t jb_subaccumulate(size_t rows, size_t cols, const uint8_t *codes, size_t codes_count,
+                          const uint32_t *accumulation, size_t accumulation_count, const uint32_t *outlets,
+                          size_t outlets_count, uint32_t *subaccumulation, size_t subaccumulation_count);
+
+/* 10, 11, 12, 14 to 18, 20, 21. Traces all longest paths to the outlet at a place of the list, counted from 0. Dropping is
+   0 or not. Writes the subaccumulation, and the starts in order. The working space takes three numbers for each of the
+   outlet's cells. results: straight, diagonal, paths, visited, dropped.
+   20 leaves the subaccumulation written. 21 leaves it too, fills the list with the first starts, and tells 0, 0, the true
+   number of paths, visited and dropped; any other refusal tells five zeros. On acceptance and 21 the working numbers that
+   are asked for are 0. */
+uint32_t jb_trace_by_stack(size_t rows, size_t cols, const uint8_t *codes, size_t codes_count,
+                           const uint32_t *accumulation, size_t accumulation_count, const uint32_t *outlets,
+                           size_t outlets_count, size_t place, uint32_t dropping, uint32_t *subaccumulation,
+                           size_t subaccumulation_count, uint32_t *starts, size_t starts_count, uint32_t *work,
+                           size_t work_count, uint32_t results[5]);
+
+/* The same by recursion, without working space: 19 in place of 20. It takes up to 2 MiB of stack. */
+uint32_t jb_trace_by_recursion(size_t rows, size_t cols, const uint8_t *codes, size_t codes_count,
+                               const uint32_t *accumulation, size_t accumulation_count, const uint32_t *outlets,
+                               size_t outlets_count, size_t place, uint32_t dropping, uint32_t *subaccumulation,
+                               size_t subaccumulation_count, uint32_t *starts, size_t starts_count,
+                               uint32_t results[5]);
+
+/* 10, 11, 12, 14 to 18, 22, 23. Writes the cells of a path, from its start to the outlet; drawn is how many, 0 on refusal. */
+uint32_t jb_draw(size_t rows, size_t cols, const uint8_t *codes, size_t codes_count, const uint32_t *accumulation,
+                 size_t accumulation_count, const uint32_t *outlets, size_t outlets_count, size_t place, uint32_t start,
+                 uint32_t *places, size_t places_count, uint32_t drawn[1]);
+
+/* 1 no whole header; 2 rows or columns not 1 to 64; 3 fewer code places than cells, or fewer outlet places than 256; 4 a row
+   record not whole or not in turn; 5 a code not among the nine; 6 no whole outlet or end record; 7 an outlet outside the
+   grid; 8 more than 256 outlets; 9 bytes after the end. shape: rows, columns, outlets, all 0 on refusal. */
+uint32_t jb_read_sheet(const uint8_t *file, size_t file_count, uint8_t *codes, size_t codes_count, uint32_t *outlets,
+                       size_t outlets_count, uint32_t shape[3]);
+
+/* 2, 3 (codes only), 5, 8, 7, 23. Writes the sheet; length is its bytes, 0 on refusal. */
+uint32_t jb_write_sheet(size_t rows, size_t cols, const uint8_t *codes, size_t codes_count, const uint32_t *outlets,
+                        size_t outlets_count, uint8_t *file, size_t file_count, uint32_t length[1]);
+
+#ifdef __cplusplus
+}
+#endif
+#endif
