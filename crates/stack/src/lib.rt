@@ -105,8 +105,8 @@ fn put_inflows(
     at
 }
 
-// The inflows of a cell of n cells are put on. A headwater has none. Where the subaccumulations of all that flows in add
-// up to those cells, no outlet flows in, and none is looked for.
+// The inflows of a cell of n cells are put on. A headwater has none. A short list of outlets is looked through; of a long
+// one, nothing is looked for where the subaccumulations of all that flows in add up to those cells: no outlet flows in.
 fn climb(
     rows: usize,
     cols: usize,
@@ -127,6 +127,9 @@ fn climb(
 {
     if n == 1 {
         return top;
+    }
+    if outlets.len() < 16 {
+        return put_inflows(rows, cols, codes, outlets, row, col, len, top, work);
     }
     let none = &outlets[..0];
     if inflows_of(rows, cols, codes, subs, row, col).sum() == wide(n - 1) {

@@ -16,20 +16,23 @@ use Rattle.stack.proofs.climb.Statement.{statement}
 use Rattle.stack.proofs.climb.Tie as tie
 
 -- where the sums agree no outlet flows in
-abbrev start : tie.Then2 → tie.Start
-start c = c .before .before .before .before .before .before .before .before .before .before
+abbrev start : tie.Else1 → tie.Start
+start c = c .before .before .before .before .before
 
-alike : (c : tie.Then2)
-    → inflowsAbove (gridOf (start c .args .rows) (start c .args .cols) (start c .args .codes .now)) []
-    (start c .args .row * start c .args .cols + start c .args .col) (start c .args .len) dirs
-    ≡ inflowsAbove (gridOf (start c .args .rows) (start c .args .cols) (start c .args .codes .now))
-    (start c .args .outlets .now) (start c .args .row * start c .args .cols + start c .args .col) (start c .args .len)
-    dirs
+abbrev start-sum : tie.Then3 → tie.Start
+start-sum c = start (c .before .before .before .before .before .before)
+
+alike : (c : tie.Then3)
+    → inflowsAbove (gridOf (start-sum c .args .rows) (start-sum c .args .cols) (start-sum c .args .codes .now)) []
+    (start-sum c .args .row * start-sum c .args .cols + start-sum c .args .col) (start-sum c .args .len) dirs
+    ≡ inflowsAbove (gridOf (start-sum c .args .rows) (start-sum c .args .cols) (start-sum c .args .codes .now))
+    (start-sum c .args .outlets .now) (start-sum c .args .row * start-sum c .args .cols + start-sum c .args .col)
+    (start-sum c .args .len) dirs
 alike c =
-    let s = start c in
+    let s = start-sum c in
     no-outlet (s .pre .0) (s .pre .1 .0) (s .args .len)
     (sym (ap sumOf (c .before .before .before .inflows-of .ensures)) ∙ sym (c .before .before .sum .ensures)
-    ∙ c .if2 .taken ∙ c .before .wide .ensures .0 ∙ ap (λ (m : ℕ). m - 1) (s .pre .1 .1 .0))
+    ∙ c .if3 .taken ∙ c .before .wide .ensures .0 ∙ ap (λ (m : ℕ). m - 1) (s .pre .1 .1 .0))
 
 returns : tie.Need-returns
 returns c =
@@ -38,6 +41,19 @@ returns c =
     subst (λ ws. PutOn ws (a .top) (a .work .now) (a .top) (a .work .now))
     (sym (none-above (s .pre .0) (s .pre .1 .0) (a .len) (sym (s .pre .1 .1 .0) ∙ c .if1 .taken)))
     (put-none (a .work .now) (a .top))
+
+put-inflows-requires : tie.Need-put-inflows-requires
+put-inflows-requires c κs =
+    let s = start (c .before .before) in (
+      on-cell (s .pre .0) (s .pre .1 .0),
+      omega (arith, few-above (s .pre .0) (s .pre .1 .0) (s .args .len), s .pre .1 .1 .0, s .pre .1 .1 .1),
+    )
+
+same-length : tie.Need-same-length
+same-length c = search needs
+
+returns-2 : tie.Need-returns-2
+returns-2 c = search needs
 
 slice-aggregate-none : tie.Need-slice-aggregate-none
 slice-aggregate-none c = search needs
@@ -49,15 +65,15 @@ sum-requires : tie.Need-sum-requires
 sum-requires c κs = search needs
 
 sub-wide : tie.Need-sub-wide
-sub-wide c = let s = c .before .before .before .before .before .before .before .before in
+sub-wide c = let s = start (c .before .before .before .before) in
     omega (arith, one-cell (s .pre .0) (s .pre .1 .0), s .pre .1 .1 .0)
 
 wide-requires : tie.Need-wide-requires
 wide-requires c κs = search needs
 
-put-inflows-requires : tie.Need-put-inflows-requires
-put-inflows-requires c κs =
-    let s = c .before .before .before .before .before .before .before .before .before .before .before in (
+put-inflows-requires-2 : tie.Need-put-inflows-requires-2
+put-inflows-requires-2 c κs =
+    let s = start-sum (c .before) in (
       on-cell (s .pre .0) (s .pre .1 .0),
       omega (
         arith,
@@ -68,43 +84,45 @@ put-inflows-requires c κs =
       ),
     )
 
-same-length : tie.Need-same-length
-same-length c = search needs
-
-returns-2 : tie.Need-returns-2
-returns-2 c =
-    let a = c .before .before .before .before .before .before .before .before .before .before .before .before .before
-    .before .args in
-    let r = c .before .before .put-inflows in
-    subst (λ ws. PutOn ws (a .top) (a .work .now) (r .result) (r .last .1 .1 .1 .1 .1 .1 .1 .1 .0))
-    (alike (c .before .before .before .before)) (r .ensures)
-
-put-inflows-requires-2 : tie.Need-put-inflows-requires-2
-put-inflows-requires-2 c κs =
-    let s = c .before .before .before .before .before .before .before .before .before .before .before in (
-      on-cell (s .pre .0) (s .pre .1 .0),
-      omega (arith, few-above (s .pre .0) (s .pre .1 .0) (s .args .len), s .pre .1 .1 .0, s .pre .1 .1 .1),
-    )
-
 same-length-2 : tie.Need-same-length-2
 same-length-2 c = search needs
 
 returns-3 : tie.Need-returns-3
-returns-3 c = search needs
+returns-3 c =
+    let t = c .before .before .before .before in
+    let a = start-sum t .args in
+    let r = c .before .before .put-inflows2 in
+    subst (λ ws. PutOn ws (a .top) (a .work .now) (r .result) (r .last .1 .1 .1 .1 .1 .1 .1 .1 .0)) (alike t) (r .ensures)
+
+put-inflows-requires-3 : tie.Need-put-inflows-requires-3
+put-inflows-requires-3 c κs =
+    let s = start (c .before .before .before .before .before .before .before) in (
+      on-cell (s .pre .0) (s .pre .1 .0),
+      omega (arith, few-above (s .pre .0) (s .pre .1 .0) (s .args .len), s .pre .1 .1 .0, s .pre .1 .1 .1),
+    )
+
+same-length-3 : tie.Need-same-length-3
+same-length-3 c = search needs
+
+returns-4 : tie.Need-returns-4
+returns-4 c = search needs
 
 pub climb-spec : {M : Type 1} → statement M
 climb-spec =
     tie.close
     (tie.spec
     returns
+    put-inflows-requires
+    same-length
+    returns-2
     slice-aggregate-none
     inflows-of-requires
     sum-requires
     sub-wide
     wide-requires
-    put-inflows-requires
-    same-length
-    returns-2
     put-inflows-requires-2
     same-length-2
-    returns-3)
+    returns-3
+    put-inflows-requires-3
+    same-length-3
+    returns-4)
