@@ -6,7 +6,8 @@ use mathlib.Core.Logic.{_⊎_, inl, inr}
 use mathlib.Core.List.{List, [], _∷_, _++_, append-assoc}
 use Prim.Native.Nat.{ℕ, zero, suc, _+_, _*_, _≤_, _<_}
 use native.Mathlib.Omega.{arith}
-use lib.ListN.{length, getD, take, drop, length-append, length-take, length-drop}
+use lib.ListN.{length, getD, take, drop, length-append, length-take, length-drop, drop-of-length-le}
+use lib.Seq.{take-all, take-append-le}
 use lib.Dec.{eqb, ltb}
 use borrow.Author.Tests.{eq-eqb, ltb-true}
 use Rattle.ground.proofs.Lists.{and-both}
@@ -39,6 +40,22 @@ use Rattle.answers.specs.Tracings.{chosen, chosenTracing, chooseChecks, 
 pub overlaid-length : (new old : List ℕ) → length (overlaid new old) ≡ length old
 unfolding overlaid
 overlaid-length new old = simp (length-append, length-take, length-drop) (omega arith)
+
+-- where there is room for all of them, the new numbers stand whole before the rest of the old
+pub overlaid-front : (new old : List ℕ) → length new ≤ length old → overlaid new old ≡ new ++ drop (length new) old
+unfolding overlaid
+overlaid-front new old h = ap (λ (l : List ℕ). l ++ drop (length new) old) (take-all (length old) new h)
+
+-- where there is room for none beyond the first of them, more change nothing
+pub overlaid-full : (new more old : List ℕ) → length old ≤ length new → overlaid (new ++ more) old ≡ overlaid new old
+unfolding overlaid
+overlaid-full new more old h =
+    let e : length (new ++ more) ≡ length new + length more = length-append new more in
+    rw (
+      take-append-le (length old) new more h,
+      drop-of-length-le old h,
+      drop-of-length-le old {i = length (new ++ more)} (omega (arith, e)),
+    )
 
 -- the checks before the one that gave the number all pass
 pub all-passed : (n : ℕ) (cs ds : List Check) → Every (λ c. c .number ≡ n → ⊥) cs → firstFailed (cs ++ ds) ≡ n

@@ -1,0 +1,49 @@
+-- `lines::put_path` meets its contract.
+-- Assumes nothing.
+use Rattle.lines.specs.Line.{pathLine}
+use Rattle.lines.proofs.Appending.{appends-both}
+use borrow.Author.Needs.{needs}
+use Rattle.lines.proofs.put_path.Statement.{statement}
+use Rattle.lines.proofs.put_path.Tie as tie
+
+slice-aggregate-tell : tie.Need-slice-aggregate-tell
+slice-aggregate-tell c = search needs
+
+tell-requires : tie.Need-tell-requires
+tell-requires c κs = search needs
+
+slice-aggregate-tell-2 : tie.Need-slice-aggregate-tell-2
+slice-aggregate-tell-2 c = search needs
+
+tell-requires-2 : tie.Need-tell-requires-2
+tell-requires-2 c κs = search needs
+
+slice-aggregate-put-word : tie.Need-slice-aggregate-put-word
+slice-aggregate-put-word c = search needs
+
+put-word-requires : tie.Need-put-word-requires
+put-word-requires c κs = search needs
+
+same-length : tie.Need-same-length
+same-length c = search needs
+
+returns : tie.Need-returns
+unfolding pathLine
+returns c =
+    let w = c .before .before in
+    let t2 = w .before .before .before .before .before in
+    let t1 = t2 .before .before .before .before .before in
+    appends-both (t1 .tell .ensures) (appends-both (t2 .tell2 .ensures) (w .put-word .ensures))
+
+pub put-path-spec : {M : Type 1} → statement M
+put-path-spec =
+    tie.close
+    (tie.spec
+    slice-aggregate-tell
+    tell-requires
+    slice-aggregate-tell-2
+    tell-requires-2
+    slice-aggregate-put-word
+    put-word-requires
+    same-length
+    returns)
