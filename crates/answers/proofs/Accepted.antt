@@ -1,17 +1,19 @@
 -- DEMAND 3 holds on every call that reaches the search: accepted, or refused with 21 after all checks before it.
 -- Assumes nothing.
 use mathlib.Core.Path.{_≡_, refl, sym, ap, _∙_, subst}
-use mathlib.Core.Bool.{Bool, true, false, cond, not, _&&_, _||_, true≢false, or-true}
+use mathlib.Core.Bool.{Bool, true, false, cond, not, _&&_, _||_, or-true}
 use mathlib.Core.Logic.{_⊎_, inl, inr}
 use mathlib.Core.List.{List, [], _∷_, _++_, append-assoc}
 use Prim.Native.Nat.{ℕ, zero, suc, _+_, _*_, _≤_, _<_}
 use native.Mathlib.Omega.{arith}
 use lib.ListN.{length, getD, take, drop, length-append, length-take, length-drop}
+use lib.Seq.{take-all}
 use lib.Dec.{eqb, ltb}
 use borrow.Author.Tests.{eq-eqb, ltb-true}
 use Rattle.ground.specs.Lists.{Every, member}
 use Rattle.ground.specs.Grid.{Grid, gridOf, places, ground}
 use Rattle.ground.specs.Accumulation.{agrees}
+use Rattle.ground.proofs.Lists.{and-both}
 use Rattle.search.specs.Tracing.{Tracing, tracing}
 use Rattle.search.specs.Demand.{anyCell, Demand3}
 use Rattle.search.proofs.Demand3.{demand3}
@@ -39,6 +41,11 @@ pub overlaid-length : (new old : List ℕ) → length (overlaid new old) ≡ len
 unfolding overlaid
 overlaid-length new old = simp (length-append, length-take, length-drop) (omega arith)
 
+-- where there is room for all of them, the new numbers stand whole before the rest of the old
+pub overlaid-front : (new old : List ℕ) → length new ≤ length old → overlaid new old ≡ new ++ drop (length new) old
+unfolding overlaid
+overlaid-front new old h = ap (λ (l : List ℕ). l ++ drop (length new) old) (take-all (length old) new h)
+
 -- the checks before the one that gave the number all pass
 pub all-passed : (n : ℕ) (cs ds : List Check) → Every (λ c. c .number ≡ n → ⊥) cs → firstFailed (cs ++ ds) ≡ n
     → Every (λ c. c .passes ≡ true) cs
@@ -50,10 +57,6 @@ all-passed n (c ∷ cs) ds k e = go (c .passes) refl (all-passed n cs ds (k .1))
         → Every (λ d. d .passes ≡ true) (c ∷ cs)
     go true p ih = (p, ih (sym (rw p) ∙ e))
     go false p ih = absurd (k .0 (sym (rw p) ∙ e))
-
-and-both : (a b : Bool) → (a && b) ≡ true → (a ≡ true) × (b ≡ true)
-and-both true b h = (refl, h)
-and-both false b h = absurd (true≢false (sym h))
 
 -- an element of a list of which all pass
 all-at : (f : ℕ → Bool) (xs : List ℕ) → allPass f xs ≡ true → (i : ℕ) → i < length xs → f (getD xs i 0) ≡ true

@@ -1,7 +1,7 @@
 -- What a caller knows of the checks once they have given a number: by 0, or by that of a later check.
 -- Assumes nothing.
 use mathlib.Core.Path.{_≡_, refl, sym, _∙_}
-use mathlib.Core.Bool.{Bool, true, false, cond, _&&_, true≢false}
+use mathlib.Core.Bool.{Bool, true, false, cond, _&&_}
 use mathlib.Core.Logic.{_⊎_, inl, inr}
 use mathlib.Core.List.{List, [], _∷_, _++_}
 use Prim.Native.Nat.{ℕ, zero, suc, _*_, _≤_, _<_}
@@ -12,15 +12,12 @@ use borrow.Author.Tests.{leb-true, ltb-true}
 use Rattle.ground.specs.Lists.{Every}
 use Rattle.ground.specs.Grid.{Grid, gridOf, places, ground}
 use Rattle.ground.specs.Accumulation.{agrees}
+use Rattle.ground.proofs.Lists.{and-both}
 use Rattle.answers.specs.Checks.{Check, firstFailed, allPass, isSide, different}
 use Rattle.answers.specs.Checks.{check10, check11, check12, check14, check15, check16, check17, check18}
 use Rattle.answers.specs.Entries.{gridChecks, outletChecks}
 use Rattle.answers.proofs.Accepted.{all-passed}
 use Rattle.checks.specs.Lent.{Lent, isPlaced}
-
-and-both : (a b : Bool) → (a && b) ≡ true → (a ≡ true) × (b ≡ true)
-and-both true b h = (refl, h)
-and-both false b h = absurd (true≢false (sym h))
 
 -- ---- lists of checks
 

@@ -7,19 +7,15 @@ use Prim.Native.Nat.{ℕ, _+_, _-_, _≤_, _<_}
 use native.Mathlib.Omega.{arith}
 use native.Mathlib.Decide.{decLt}
 use lib.ListN.{length, getD, drop, length-append, length-drop, length-replicate, getD-replicate, List·getD-append}
-use lib.Seq.{ext-getD, getD-append-add, getD-drop, take-all}
+use lib.Seq.{ext-getD, getD-append-add, getD-drop}
 use Rattle.ground.specs.Grid.{Grid, places}
 use Rattle.ground.specs.Accumulation.{subaccumulation, subaccumulations}
 use Rattle.ground.proofs.Ground.{grid-length, grid-at}
 use Rattle.answers.specs.Entries.{overlaid, zeros}
+use Rattle.answers.proofs.Accepted.{overlaid-front}
 use Rattle.filling.specs.Filling.{Kept, filledIf}
 
--- where there is room for all of them, the new numbers stand whole before the rest of the old
-pub overlaid-front : (new old : List ℕ) → length new ≤ length old → overlaid new old ≡ new ++ drop (length new) old
-unfolding overlaid
-overlaid-front new old h = ap (λ (l : List ℕ). l ++ drop (length new) old) (take-all (length old) new h)
-
--- and a list that has them there, and kept what lies beyond, is that list
+-- a list that has the new numbers in front, and kept what lies beyond, is that list
 pub front-is : (xs : List ℕ) {old new : List ℕ} → length xs ≤ length old → Kept (length xs) old new
     → ((x : ℕ) → x < length xs → getD new x 0 ≡ getD xs x 0) → new ≡ overlaid xs old
 front-is xs {old} {new} r k w = ext-getD 0 new (xs ++ drop (length xs) old)

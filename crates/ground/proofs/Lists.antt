@@ -150,7 +150,7 @@ only-in f a (x ∷ xs) (inr j) t = go (f x) (only-in f a xs j t)
     go true j = inr j
     go false j = j
 
-and-both : (a b : Bool) → (a && b) ≡ true → (a ≡ true) × (b ≡ true)
+pub and-both : (a b : Bool) → (a && b) ≡ true → (a ≡ true) × (b ≡ true)
 and-both true b h = (refl, h)
 and-both false b h = absurd (true≢false (sym h))
 
