@@ -9,10 +9,10 @@ use native.Mathlib.Omega.{arith}
 use lib.ListN.{length, getD}
 use lib.Dec.{ltb, leb}
 use borrow.Author.Tests.{leb-true, ltb-true}
-use Rattle.ground.proofs.Lists.{and-both}
 use Rattle.ground.specs.Lists.{Every}
 use Rattle.ground.specs.Grid.{Grid, gridOf, places, ground}
 use Rattle.ground.specs.Accumulation.{agrees}
+use Rattle.ground.proofs.Lists.{and-both}
 use Rattle.answers.specs.Checks.{Check, firstFailed, allPass, isSide, different}
 use Rattle.answers.specs.Checks.{check10, check11, check12, check14, check15, check16, check17, check18}
 use Rattle.answers.specs.Entries.{gridChecks, outletChecks}

@@ -50,7 +50,7 @@ fn is_code(code: u8) -> bool
 }
 
 // 12: are the first n?
-fn all_codes(codes: &[u8], n: usize) -> bool
+pub fn all_codes(codes: &[u8], n: usize) -> bool
     requires { ⌜ n ≤ length (now codes) ⌝ }
     ensures { λ r. ⌜ r ≡ allBelow (λ x. isCode (getD (now (codes .entry)) x 0)) n ⌝ }
 {

@@ -15,7 +15,7 @@ use Rattle.answers.specs.Entries.{overlaid, zeros}
 use Rattle.answers.proofs.Accepted.{overlaid-front}
 use Rattle.filling.specs.Filling.{Kept, filledIf}
 
--- a list that has the new numbers in front, and kept what lies beyond
+-- a list that has the new numbers in front, and kept what lies beyond, is that list
 pub front-is : (xs : List ℕ) {old new : List ℕ} → length xs ≤ length old → Kept (length xs) old new
     → ((x : ℕ) → x < length xs → getD new x 0 ≡ getD xs x 0) → new ≡ overlaid xs old
 front-is xs {old} {new} r k w = ext-getD 0 new (xs ++ drop (length xs) old)

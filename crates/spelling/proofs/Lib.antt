@@ -1,0 +1,7 @@
+pub mod Records
+pub mod Accepted
+pub mod Spelled
+pub mod Sizes
+pub mod Writable
+pub mod RoundTrip
+pub mod ExampleTable

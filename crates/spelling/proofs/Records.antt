@@ -1,0 +1,96 @@
+-- Numbers and records in a file, by their bytes.
+-- Assumes nothing.
+use mathlib.Core.Path.{_≡_, refl, _∙_}
+use mathlib.Core.Bool.{Bool, true, false, cond, _&&_}
+use mathlib.Core.List.{List, [], _∷_, _++_}
+use Prim.Native.Nat.{ℕ, suc, _+_, _*_, _/_, _%_, _≤_, _<_}
+use native.Mathlib.Nat.{add-zero}
+use native.Mathlib.Omega.{arith}
+use lib.ListN.{length, getD, drop, length-drop}
+use lib.Seq.{drop-drop, getD-drop}
+use lib.Dec.{leb, eqb}
+use borrow.Author.Tests.{leb-true, eqb-true, le-leb, eq-eqb}
+use Rattle.ground.proofs.Lists.{and-both}
+use Rattle.answers.specs.Checks.{allPass}
+use Rattle.spelling.specs.Format.{Mark, marked, twoBytes, outletMark}
+use Rattle.spelling.specs.Reading.{numberAt, isRecord, isEnd, isSheetSide}
+
+-- ---- checks
+
+-- a check that gives 0 passes, and so do those after it
+pub passes : (b : Bool) (later k : ℕ) → cond b later (suc k) ≡ 0 → (b ≡ true) × (later ≡ 0)
+passes true later k e = (refl, e)
+passes false later k e = absurd (omega arith)
+
+pub all-append : (f : ℕ → Bool) (xs ys : List ℕ) → allPass f xs ≡ true → allPass f ys ≡ true → allPass f (xs ++ ys) ≡ true
+all-append f [] ys h k = k
+all-append f (x ∷ xs) ys h k = let p = and-both (f x) (allPass f xs) h in rw (p .0) (all-append f xs ys (p .1) k)
+
+pub append-all : (f : ℕ → Bool) (xs ys : List ℕ) → allPass f (xs ++ ys) ≡ true
+    → (allPass f xs ≡ true) × (allPass f ys ≡ true)
+append-all f [] ys h = (refl, h)
+append-all f (x ∷ xs) ys h =
+    let p = and-both (f x) (allPass f (xs ++ ys)) h in
+    let q = append-all f xs ys (p .1) in
+    (rw (p .0) (q .0), q .1)
+
+pub side-is : (n : ℕ) → isSheetSide n ≡ true → (1 ≤ n) × (n ≤ 64)
+side-is n e = let q = and-both (leb 1 n) (leb n 64) e in (leb-true 1 n (q .0), leb-true n 64 (q .1))
+
+pub is-side : (n : ℕ) → 1 ≤ n → n ≤ 64 → isSheetSide n ≡ true
+is-side n h k = rw (le-leb 1 n h, le-leb n 64 k)
+
+-- ---- numbers
+
+-- a list by its first two elements
+pub two : (l : List ℕ) → 2 ≤ length l → l ≡ getD l 0 0 ∷ getD l 1 0 ∷ drop 2 l
+two [] h = absurd (omega arith)
+two (x ∷ []) h = absurd (omega arith)
+two (x ∷ y ∷ l) h = refl
+
+-- two bytes are their number
+pub of-bytes : (n : ℕ) → n % 256 + 256 * (n / 256) ≡ n
+of-bytes n = omega arith
+
+-- and a number below 256 is its two bytes, whatever they are
+small-bytes : (low high : ℕ) → low + 256 * high < 256
+    → ((low + 256 * high) % 256 ≡ low) × ((low + 256 * high) / 256 ≡ high)
+small-bytes low high h = (omega arith, omega arith)
+
+pub number-bytes : (at : ℕ) (l : List ℕ) → at + 2 ≤ length l → numberAt at l < 256
+    → drop at l ≡ twoBytes (numberAt at l) ++ drop (at + 2) l
+unfolding numberAt
+number-bytes at l h k =
+    let q = small-bytes (getD l at 0) (getD l (at + 1) 0) k in
+    let a : getD (drop at l) 0 0 ≡ getD l at 0 = getD-drop at l 0 0 ∙ rw (add-zero at) in
+    rw (q .0, q .1, ← getD-drop at l 1 0, ← a, ← drop-drop 2 at l) (two (drop at l) (omega (arith, length-drop at l)))
+
+-- ---- records
+
+pub record Whole (m : Mark) (size : ℕ) (rest : List ℕ) : Type 0 where
+  pub fits : size ≤ length rest
+  pub begins : 2 ≤ size → rest ≡ marked m (drop 2 rest)
+
+pub record-is : (m : Mark) (size : ℕ) (rest : List ℕ) → isRecord m size rest ≡ true → Whole m size rest
+unfolding isRecord
+record-is m size rest e =
+    let q = and-both (leb size (length rest)) (eqb (getD rest 0 0) (m .first) && eqb (getD rest 1 0) (m .second)) e in
+    let r = and-both (eqb (getD rest 0 0) (m .first)) (eqb (getD rest 1 0) (m .second)) (q .1) in
+    let fits = leb-true size (length rest) (q .0) in
+    record {
+      fits = fits;
+      begins = λ h.
+          two rest (omega arith)
+          ∙ rw (eqb-true (getD rest 0 0) (m .first) (r .0), eqb-true (getD rest 1 0) (m .second) (r .1));
+    }
+
+pub is-record : (m : Mark) (size : ℕ) (rest : List ℕ) → size ≤ length (marked m rest)
+    → isRecord m size (marked m rest) ≡ true
+unfolding isRecord
+is-record m size rest h =
+    rw (le-leb size (length (marked m rest)) h, eq-eqb (m .first) (m .first) refl, eq-eqb (m .second) (m .second) refl)
+
+-- an outlet record is no end record
+pub no-end : (rest : List ℕ) → isEnd (marked outletMark rest) ≡ false
+unfolding isRecord
+no-end rest = rw (le-leb 2 (length (marked outletMark rest)) (omega arith))
