@@ -1,0 +1,87 @@
+//! Slices lent to the host library, each between two fences.
+
+use std::fmt::Display;
+
+use crate::random::Random;
+
+/// Elements of a fence. An odd number, so that bytes are lent at odd places.
+const FENCE: usize = 17;
+
+/// What can be lent: bytes and 32-bit numbers.
+pub trait Element: Copy + PartialEq + Display {
+    fn noise(random: &mut Random) -> Self;
+}
+
+impl Element for u8 {
+    /// Mostly a code that would be believed if it were read.
+    fn noise(random: &mut Random) -> u8 {
+        let bits = random.next();
+        if bits & 3 == 0 {
+            (bits >> 8) as u8
+        } else {
+            1 << ((bits >> 8) & 7)
+        }
+    }
+}
+
+impl Element for u32 {
+    fn noise(random: &mut Random) -> u32 {
+        random.next() as u32
+    }
+}
+
+pub fn noise<T: Element>(count: usize, random: &mut Random) -> Vec<T> {
+    (0..count).map(|_| T::noise(random)).collect()
+}
+
+/// A slice as the host library gets it.
+pub struct Lent<T> {
+    store: Vec<T>,
+    fences: Vec<T>,
+}
+
+/// A place where a lent slice holds something else than it should. Places
+/// before the slice are negative.
+pub struct Difference {
+    pub place: isize,
+    pub due: String,
+    pub found: String,
+}
+
+impl<T: Element> Lent<T> {
+    pub fn new(contents: &[T], random: &mut Random) -> Self {
+        let fences = noise(2 * FENCE, random);
+        let (before, after) = fences.split_at(FENCE);
+        Lent { store: [before, contents, after].concat(), fences }
+    }
+
+    pub fn pointer(&mut self) -> *mut T {
+        self.store[FENCE..].as_mut_ptr()
+    }
+
+    pub fn count(&self) -> usize {
+        self.store.len() - 2 * FENCE
+    }
+
+    /// The first difference from what is due, fences included.
+    pub fn difference(&self, due: &[T]) -> Option<Difference> {
+        let (before, after) = self.fences.split_at(FENCE);
+        let inner = FENCE..FENCE + due.len();
+        let parts = [
+            (&self.store[..inner.start], before, 0),
+            (&self.store[inner.clone()], due, inner.start),
+            (&self.store[inner.end..], after, inner.end),
+        ];
+        for (found, due, from) in parts {
+            if found != due {
+                let at = (0..due.len()).find(|&at| found[at] != due[at])?;
+                return Some(Difference {
+                    place: (from + at) as isize - FENCE as isize,
+                    due: due[at].to_string(),
+                    found: found[at].to_string(),
+                });
+            }
+        }
+        None
+    }
+}

@@ -1,0 +1,115 @@
+//! Compares Jinxbanyan's host library and desk program with the second
+//! reading.
+//!
+//! * `compare` makes all calls and compares every lent byte;
+//! * `compare follow` does so and tells what it takes up, to find a call that
+//!   does not return;
+//! * `compare desk <program>` compares the desk program's output.
+//!
+//! The status is 0 if nothing differs, 1 if something does or a number was
+//! never seen, 2 if the program was not asked rightly.
+#![cfg_attr(not(host_linked), allow(dead_code))]
+
+#[cfg(host_linked)]
+mod calls;
+mod desk_trials;
+#[cfg(host_linked)]
+mod edge_trials;
+#[cfg(host_linked)]
+mod grid_trials;
+mod grounds;
+#[cfg(host_linked)]
+mod host;
+#[cfg(host_linked)]
+mod lent;
+mod random;
+mod sheet_files;
+#[cfg(host_linked)]
+mod sheet_trials;
+#[cfg(host_linked)]
+mod tally;
+#[cfg(host_linked)]
+mod trap_trials;
+
+use std::env;
+use std::process::ExitCode;
+use std::thread;
+
+/// The seed of everything tried.
+const SEED: u64 = 0x4A69_6E78_6261_6E79;
+
+/// The second reading recurs as deep as the longest walk has cells.
+const LARGE_STACK: usize = 512 << 20;
+
+fn main() -> ExitCode {
+    let arguments: Vec<String> = env::args().skip(1).collect();
+    let arguments: Vec<&str> = arguments.iter().map(String::as_str).collect();
+    let asked = match arguments[..] {
+        [] => Asked::Calls { follow: false },
+        ["follow"] => Asked::Calls { follow: true },
+        ["desk", program] => Asked::Desk(program.to_string()),
+        _ => {
+            eprintln!("use: compare\n     compare follow\n     compare desk <program>");
+            return ExitCode::from(2);
+        }
+    };
+    let work = move || match asked {
+        Asked::Calls { follow } => compare_calls(follow),
+        Asked::Desk(program) => desk_trials::run(&program, SEED),
+    };
+    let worker = thread::Builder::new().stack_size(LARGE_STACK).spawn(work);
+    worker.expect("a thread starts").join().unwrap_or(ExitCode::from(1))
+}
+
+enum Asked {
+    Calls { follow: bool },
+    Desk(String),
+}
+
+#[cfg(not(host_linked))]
+fn compare_calls(_follow: bool) -> ExitCode {
+    eprintln!("built without the host library: set JINXBANYAN_LIB_DIR and build again");
+    ExitCode::from(2)
+}
+
+#[cfg(host_linked)]
+fn compare_calls(follow: bool) -> ExitCode {
+    use std::time::Instant;
+
+    let begun = Instant::now();
+    let mut comparison = calls::Comparison::new(SEED, follow);
+    let mut random = random::Random::new(SEED);
+    type Part = (&'static str, fn(&mut calls::Comparison, &mut random::Random));
+    let parts: [Part; 10] = [
+        ("traps", |comparison, _| trap_trials::run(comparison)),
+        ("sheets", sheet_trials::run),
+        ("every small grid", grid_trials::every_small_grid),
+        ("recursion's edges", |comparison, _| edge_trials::recursion(comparison)),
+        ("near ties", |comparison, _| edge_trials::near_ties(comparison)),
+        ("a large arm", |comparison, _| edge_trials::large_arm(comparison)),
+        ("outlets' edges", grid_trials::outlet_edges),
+        ("many grids", |comparison, random| grid_trials::many_grids(comparison, 2000, random)),
+        ("larger grids", grid_trials::larger_grids),
+        ("the largest grid", |comparison, _| edge_trials::largest_grid(comparison)),
+    ];
+    for (name, part) in parts {
+        let (calls, begun) = (comparison.tally.calls(), Instant::now());
+        part(&mut comparison, &mut random);
+        let calls = comparison.tally.calls() - calls;
+        println!("{name}: {calls} calls, {:.1} s", begun.elapsed().as_secs_f64());
+    }
+    println!();
+    comparison.tally.print();
+    let unseen = comparison.tally.unseen();
+    for (entry, number) in &unseen {
+        println!("NEVER SEEN: {number} of {}", entry.name());
+    }
+    let calls = comparison.tally.calls();
+    println!("{calls} calls, {:.1} s", begun.elapsed().as_secs_f64());
+    if unseen.is_empty() {
+        println!("no difference");
+        ExitCode::SUCCESS
+    } else {
+        ExitCode::from(1)
+    }
+}

@@ -1,0 +1,112 @@
+//! How many calls of each number each entry saw.
+
+const NUMBERS: usize = 24;
+
+/// The columns of the table.
+#[derive(Clone, Copy, Debug, PartialEq, Eq)]
+pub enum Entry {
+    Accumulate,
+    CheckAccumulation,
+    Subaccumulate,
+    TraceByStack,
+    TraceByStackDropping,
+    TraceByRecursion,
+    TraceByRecursionDropping,
+    Draw,
+    ReadSheet,
+    WriteSheet,
+}
+
+const ENTRIES: [Entry; 10] = [
+    Entry::Accumulate,
+    Entry::CheckAccumulation,
+    Entry::Subaccumulate,
+    Entry::TraceByStack,
+    Entry::TraceByStackDropping,
+    Entry::TraceByRecursion,
+    Entry::TraceByRecursionDropping,
+    Entry::Draw,
+    Entry::ReadSheet,
+    Entry::WriteSheet,
+];
+
+impl Entry {
+    pub fn name(self) -> &'static str {
+        match self {
+            Entry::Accumulate => "accumulate",
+            Entry::CheckAccumulation => "check",
+            Entry::Subaccumulate => "subacc",
+            Entry::TraceByStack => "stack",
+            Entry::TraceByStackDropping => "stack-drop",
+            Entry::TraceByRecursion => "recur",
+            Entry::TraceByRecursionDropping => "recur-drop",
+            Entry::Draw => "draw",
+            Entry::ReadSheet => "read",
+            Entry::WriteSheet => "write",
+        }
+    }
+
+    /// The numbers that can come of the entry.
+    fn numbers(self) -> &'static [u32] {
+        match self {
+            Entry::Accumulate => &[0, 10, 11, 12, 13],
+            Entry::CheckAccumulation => &[0, 10, 11, 12, 14],
+            Entry::Subaccumulate => &[0, 10, 11, 12, 14, 15, 16, 17],
+            Entry::TraceByStack | Entry::TraceByStackDropping => {
+                &[0, 10, 11, 12, 14, 15, 16, 17, 18, 20, 21]
+            }
+            Entry::TraceByRecursion | Entry::TraceByRecursionDropping => {
+                &[0, 10, 11, 12, 14, 15, 16, 17, 18, 19, 21]
+            }
+            Entry::Draw => &[0, 10, 11, 12, 14, 15, 16, 17, 18, 22, 23],
+            Entry::ReadSheet => &[0, 1, 2, 3, 4, 5, 6, 7, 8, 9],
+            Entry::WriteSheet => &[0, 2, 3, 5, 7, 8, 23],
+        }
+    }
+}
+
+#[derive(Default)]
+pub struct Tally {
+    counts: [[u64; NUMBERS]; ENTRIES.len()],
+}
+
+impl Tally {
+    pub fn count(&mut self, entry: Entry, number: u32) {
+        self.counts[entry as usize][number as usize] += 1;
+    }
+
+    pub fn calls(&self) -> u64 {
+        self.counts.iter().flatten().sum()
+    }
+
+    /// The entries and numbers that can come and were never seen.
+    pub fn unseen(&self) -> Vec<(Entry, u32)> {
+        let possible = ENTRIES
+            .into_iter()
+            .flat_map(|entry| entry.numbers().iter().map(move |&number| (entry, number)));
+        possible
+            .filter(|&(entry, number)| self.counts[entry as usize][number as usize] == 0)
+            .collect()
+    }
+
+    pub fn print(&self) {
+        print!("number");
+        ENTRIES.iter().for_each(|entry| print!(" {:>10}", entry.name()));
+        println!(" {:>10}", "all");
+        for number in 0..NUMBERS {
+            print!("{number:>6}");
+            for entry in ENTRIES {
+                if entry.numbers().contains(&(number as u32)) {
+                    print!(" {:>10}", self.counts[entry as usize][number]);
+                } else {
+                    print!(" {:>10}", "-");
+                }
+            }
+            let all: u64 = self.counts.iter().map(|counts| counts[number]).sum();
+            println!(" {all:>10}");
+        }
+        print!("   all");
+        self.counts.iter().for_each(|counts| print!(" {:>10}", counts.iter().sum::<u64>()));
+        println!(" {:>10}", self.calls());
+    }
+}

@@ -1,0 +1,43 @@
+//! A second reading of Jinxbanyan's rules.
+//!
+//! Everything here is written from the words of the scope paper ("01") and
+//! from nothing else, as directly as the words allow, and by other methods
+//! than a fast program would choose:
+//!
+//! * accumulation in topological order, rings by a search of their own;
+//! * lengths by walking from every cell;
+//! * exact comparison of lengths by integer square roots;
+//! * the order of starts by comparing whole routes read upward;
+//! * visited and dropped by plain recursion over an explicit tree.
+//!
+//! | module | what it tells |
+//! |---|---|
+//! | [`ground`] | codes, neighbours, walks, rings, accumulation |
+//! | [`lengths`] | a + b√2 and its order |
+//! | [`subwatershed`] | outlets, subaccumulation, longest starts, paths |
+//! | [`search`] | visited and dropped |
+//! | [`entries`] | the grid entries, their checks and what they leave |
+//! | [`sheet`] | reading and writing the sheet file |
+//! | [`desk`] | the desk program's whole output |
+
+pub mod desk;
+pub mod entries;
+pub mod ground;
+pub mod lengths;
+pub mod search;
+pub mod sheet;
+pub mod subwatershed;
+
+/// The number of a check that said "no". 0 stands for acceptance and is never
+/// held here.
+#[derive(Clone, Copy, Debug, PartialEq, Eq)]
+pub struct Refusal(pub u32);
+
+/// One check: its number where the answer is "no".
+pub(crate) fn check(number: u32, yes: bool) -> Result<(), Refusal> {
+    if yes {
+        Ok(())
+    } else {
+        Err(Refusal(number))
+    }
+}

@@ -1,0 +1,193 @@
+//! Outlets and what lies above them: subaccumulation, subwatersheds, the
+//! longest walks and the order of their starts.
+
+use crate::ground::{Ground, Step};
+use crate::lengths::Length;
+
+/// Ground without rings, cut up by a list of outlets. Each outlet is a
+/// non-null cell; all are different.
+pub struct Division<'a> {
+    ground: Ground<'a>,
+    is_outlet: Vec<bool>,
+    /// The step from each cell, looked up once.
+    steps: Vec<Option<Step>>,
+}
+
+/// Where a walk first meets an outlet, and how long it is up to there.
+#[derive(Clone, Copy, Debug, PartialEq, Eq)]
+pub struct Meeting {
+    pub outlet: usize,
+    pub length: Length,
+}
+
+/// The longest walks of a subwatershed.
+#[derive(Debug, PartialEq, Eq)]
+pub struct Longest {
+    pub length: Length,
+    /// All cells whose walk has that length, in order.
+    pub starts: Vec<u32>,
+}
+
+impl<'a> Division<'a> {
+    pub fn new(ground: Ground<'a>, outlets: &[u32]) -> Self {
+        let mut is_outlet = vec![false; ground.cells()];
+        for &outlet in outlets {
+            is_outlet[outlet as usize] = true;
+        }
+        let mut steps = vec![None; ground.cells()];
+        for cell in ground.solid() {
+            steps[cell] = ground.step(cell);
+        }
+        Division { ground, is_outlet, steps }
+    }
+
+    pub fn is_outlet(&self, cell: usize) -> bool {
+        self.is_outlet[cell]
+    }
+
+    /// Subaccumulation: accumulation's sum, inflowing outlets left out.
+    pub fn subaccumulation(&self) -> Vec<u32> {
+        self.ground.accumulation_without(|cell| self.is_outlet(cell))
+    }
+
+    /// The inflows that are not outlets, in neighbour order, with their ways.
+    pub fn inflows(&self, cell: usize) -> impl Iterator<Item = (usize, usize)> + '_ {
+        self.ground.inflows(cell).filter(|&(_, inflow)| !self.is_outlet(inflow))
+    }
+
+    /// The first outlet on the walk from a non-null cell, if there is one. A
+    /// walk holds its own start, so an outlet meets itself.
+    pub fn meeting(&self, cell: usize) -> Option<Meeting> {
+        let mut here = cell;
+        let mut length = Length::ZERO;
+        while !self.is_outlet(here) {
+            let step = self.steps[here]?;
+            here = step.to as usize;
+            length = length.with_step(step.diagonal);
+        }
+        Some(Meeting { outlet: here, length })
+    }
+
+    /// Is this a cell number of the outlet's subwatershed: the outlet, and
+    /// each cell whose walk meets it before any other outlet?
+    pub fn belongs(&self, cell: usize, outlet: usize) -> bool {
+        cell < self.ground.cells()
+            && !self.ground.is_null(cell)
+            && self.meeting(cell).is_some_and(|meeting| meeting.outlet == outlet)
+    }
+
+    /// The cells from a start in the outlet's subwatershed to that outlet.
+    pub fn path(&self, start: usize, outlet: usize) -> Vec<u32> {
+        let upper = self.ground.walk(start).take_while(|&cell| cell != outlet);
+        upper.chain([outlet]).map(|cell| cell as u32).collect()
+    }
+
+    /// The longest walks to the outlet: every cell of the subwatershed is
+    /// walked from, no length is greater than theirs, and all of them are
+    /// listed. Two are ordered where their routes, read upward, part.
+    pub fn longest(&self, outlet: usize) -> Longest {
+        let mut length = Length::ZERO;
+        let mut starts = Vec::new();
+        for cell in self.ground.solid() {
+            match self.meeting(cell) {
+                Some(meeting) if meeting.outlet == outlet => {
+                    if meeting.length > length {
+                        length = meeting.length;
+                        starts.clear();
+                    }
+                    if meeting.length == length {
+                        starts.push(cell as u32);
+                    }
+                }
+                _ => {}
+            }
+        }
+        starts.sort_by_cached_key(|&start| self.route_upward(start as usize, outlet));
+        Longest { length, starts }
+    }
+
+    /// The ways taken from the outlet up to a start of its subwatershed. Of
+    /// two longest routes neither begins the other, so where they first differ
+    /// the earlier neighbour is the smaller way.
+    fn route_upward(&self, start: usize, outlet: usize) -> Vec<u8> {
+        let mut route: Vec<u8> = self
+            .path(start, outlet)
+            .windows(2)
+            .map(|pair| self.way_up(pair[1] as usize, pair[0] as usize))
+            .collect();
+        route.reverse();
+        route
+    }
+
+    /// The way from a cell to one that flows into it.
+    fn way_up(&self, cell: usize, inflow: usize) -> u8 {
+        let mut ways = (0..8).filter(|&way| self.ground.neighbour(cell, way) == Some(inflow));
+        ways.next().expect("a walk steps between neighbours") as u8
+    }
+}
+
+#[cfg(test)]
+mod tests {
+    use super::*;
+    use crate::ground::tests::every_grid;
+
+    #[test]
+    fn subaccumulation_counts_the_subwatershed() {
+        for codes in every_grid(2, 2) {
+            let ground = Ground::new(2, 2, &codes);
+            if ground.has_ring() {
+                continue;
+            }
+            for set in 1..16u32 {
+                let outlets: Vec<u32> = (0..4).filter(|cell| set >> cell & 1 == 1).collect();
+                if outlets.iter().any(|&outlet| ground.is_null(outlet as usize)) {
+                    continue;
+                }
+                let division = Division::new(ground, &outlets);
+                let subaccumulation = division.subaccumulation();
+                for &outlet in &outlets {
+                    let outlet = outlet as usize;
+                    let count = (0..4).filter(|&cell| division.belongs(cell, outlet)).count();
+                    assert_eq!(subaccumulation[outlet] as usize, count);
+                }
+                for cell in ground.solid() {
+                    let inflows = division.inflows(cell).map(|(_, c)| subaccumulation[c]);
+                    assert_eq!(subaccumulation[cell], 1 + inflows.sum::<u32>());
+                }
+            }
+        }
+    }
+
+    #[test]
+    fn longest_starts_are_headwaters() {
+        let codes = [2, 4, 8, 1, 4, 16, 1, 4, 16];
+        let division = Division::new(Ground::new(3, 3, &codes), &[7, 4]);
+        let subaccumulation = division.subaccumulation();
+        for outlet in [7, 4] {
+            for start in division.longest(outlet).starts {
+                assert_eq!(subaccumulation[start as usize], 1);
+            }
+        }
+    }
+
+    #[test]
+    fn an_outlet_meets_itself() {
+        let codes = [1, 1, 1];
+        let division = Division::new(Ground::new(1, 3, &codes), &[2, 1]);
+        assert!(division.belongs(1, 1));
+        assert!(!division.belongs(1, 2));
+        assert!(!division.belongs(0, 2));
+        assert_eq!(division.path(0, 1), [0, 1]);
+        assert_eq!(division.path(1, 1), [1]);
+    }
+
+    #[test]
+    fn ties_are_ordered_by_route_and_not_by_number() {
+        // Ways up from cell 4: SE, SW, NW, NE are cells 8, 6, 0, 2.
+        let codes = [2, 4, 8, 1, 4, 16, 128, 0, 32];
+        let division = Division::new(Ground::new(3, 3, &codes), &[4]);
+        let longest = division.longest(4);
+        assert_eq!(longest.length, Length::new(0, 1));
+        assert_eq!(longest.starts, [8, 6, 0, 2]);
+    }
+}

@@ -1,0 +1,41 @@
+-- `report::number_at` meets its contract.
+-- Assumes nothing.
+use mathlib.Core.Path.{ap, _∙_}
+use Rattle.answers.specs.declared.Traced.{Traced}
+use Rattle.answers.specs.Tracings.{numberOf}
+use Rattle.report.specs.Desk.{numberAt, tracedAt}
+use borrow.Author.Needs.{needs}
+use Rattle.report.proofs.number_at.Statement.{statement}
+use Rattle.report.proofs.number_at.Tie as tie
+
+slice-aggregate-trace-by-stack : tie.Need-slice-aggregate-trace-by-stack
+slice-aggregate-trace-by-stack c = search needs
+
+slice-aggregate-trace-by-stack-2 : tie.Need-slice-aggregate-trace-by-stack-2
+slice-aggregate-trace-by-stack-2 c = search needs
+
+slice-aggregate-trace-by-stack-3 : tie.Need-slice-aggregate-trace-by-stack-3
+slice-aggregate-trace-by-stack-3 c = search needs
+
+trace-by-stack-requires : tie.Need-trace-by-stack-requires
+trace-by-stack-requires c κs = search needs
+
+number-of-requires : tie.Need-number-of-requires
+number-of-requires c κs = search needs
+
+returns : tie.Need-returns
+unfolding numberAt tracedAt
+returns c =
+    c .number-of .ensures
+    ∙ ap (λ (t : Traced). numberOf (t .answer)) (c .before .before .before .before .trace-by-stack .ensures .0)
+
+pub number-at-spec : {M : Type 1} → statement M
+number-at-spec =
+    tie.close
+    (tie.spec
+    slice-aggregate-trace-by-stack
+    slice-aggregate-trace-by-stack-2
+    slice-aggregate-trace-by-stack-3
+    trace-by-stack-requires
+    number-of-requires
+    returns)

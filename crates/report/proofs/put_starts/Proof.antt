@@ -1,0 +1,83 @@
+-- `report::put_starts` meets its contract: the lines of as many starts as were turned to are put.
+-- Assumes nothing.
+use mathlib.Core.Path.{_≡_, refl, sym, ap, _∙_}
+use mathlib.Core.List.{List}
+use Prim.Native.Nat.{ℕ, _+_, _-_, _≤_}
+use native.Mathlib.Omega.{arith}
+use lib.ListN.{length, take}
+use lib.Seq.{take-all}
+use borrow.Author.Needs.{needs}
+use Rattle.lines.specs.Appending.{Appends}
+use Rattle.lines.proofs.Appending.{appends-none, appends-both, appends-as}
+use Rattle.report.specs.Desk.{pathLines}
+use Rattle.report.proofs.Starts.{one-more, no-starts}
+use Rattle.report.proofs.put_starts.Statement.{statement}
+use Rattle.report.proofs.put_starts.Tie as tie
+
+abbrev Inv-loop : tie.InvT-loop
+Inv-loop text₀ at cols list to₀ k₀ text to k =
+    (k ≤ length list) × Appends (pathLines cols (take k list)) at text₀ to text × (length text ≡ length text₀)
+
+abbrev μ-loop : tie.MeasureT-loop
+μ-loop text₀ at cols list to₀ k₀ text to k = length list - k
+
+loop-holds : tie.Need-loop-holds Inv-loop μ-loop
+loop-holds c =
+    let a = c .before .before .args in (
+      omega arith,
+      appends-as (sym (no-starts (a .cols) (a .list .now))) (appends-none (a .at) (a .text .now)),
+      refl,
+    )
+
+mul-put-start : tie.Need-mul-put-start Inv-loop μ-loop
+mul-put-start c = search needs
+
+shared-slice-read-put-start : tie.Need-shared-slice-read-put-start Inv-loop μ-loop
+shared-slice-read-put-start c = search needs
+
+put-start-requires : tie.Need-put-start-requires Inv-loop μ-loop
+put-start-requires c κs = c .before .before .before .before .before .before .pre
+
+add-k : tie.Need-add-k Inv-loop μ-loop
+add-k c = search needs
+
+loop-less : tie.Need-loop-less Inv-loop μ-loop
+loop-less c = search needs
+
+loop-again : tie.Need-loop-again Inv-loop μ-loop
+loop-again c =
+    let p = c .before .before in
+    let i = p .before .before .before in
+    let l = i .before .loop in
+    let a = i .before .before .before .before .args in (
+      omega (arith, i .loop-test .taken),
+      appends-as (one-more (a .cols) (a .list .now) (l .k) (i .loop-test .taken))
+          (appends-both (l .inv .1) (p .put-start .ensures)),
+      p .put-start .kept .0 ∙ l .inv .2,
+    )
+
+same-length : tie.Need-same-length Inv-loop μ-loop
+same-length c = search needs
+
+returns : tie.Need-returns Inv-loop μ-loop
+returns c =
+    let l = c .before .loop in
+    let a = c .before .before .before .before .args in
+    appends-as (ap (λ (s : List ℕ). pathLines (a .cols) s) (take-all (l .k) (a .list .now)
+    (omega (arith, c .loop-test .left)))) (l .inv .1)
+
+pub put-starts-spec : {M : Type 1} → statement M
+put-starts-spec =
+    tie.close
+    (tie.spec
+    Inv-loop
+    μ-loop
+    loop-holds
+    mul-put-start
+    shared-slice-read-put-start
+    put-start-requires
+    add-k
+    loop-less
+    loop-again
+    same-length
+    returns)
