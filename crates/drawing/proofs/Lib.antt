@@ -1,0 +1,6 @@
+pub mod Marks
+pub mod Walked
+pub mod Stepping
+pub mod Following
+pub mod Writing
+pub mod Judging
