@@ -53,7 +53,7 @@ module _ {rows cols : ℕ} {codes accumulation outlets : List ℕ} (s : Surveyed
   pub outlet-in : (j : ℕ) → j < length outlets → getD outlets j 0 < length accumulation
   outlet-in j h = omega (arith, 𝓝 land .bounded (getD outlets j 0) (s .placed j h), s .has-accumulation)
 
-  positive : (x : ℕ) → ground land x ≡ true → 0 < getD accumulation x 0
+  pub positive : (x : ℕ) → ground land x ≡ true → 0 < getD accumulation x 0
   unfolding Agrees
   positive x v = omega (arith, lent land accumulation (s .agreement) x v)
 
@@ -164,10 +164,10 @@ module _ {rows cols : ℕ} {codes accumulation outlets : List ℕ} (s : Surveyed
             }
 
   -- IT CANNOT BEGIN where there is no ground: no outlet is there, and nothing flows on
-  nowhere : (o start : ℕ) → ground land start ≡ false → 0 ≡ pathLength land outlets o start
-  unfolding pathLength inSubwatershed
-  nowhere o start z = sym (rw (belongs-end squares (next land) (isOutlet land outlets) start
-      (listed (member start outlets) refl) (rows * cols) o (flows (next land start) refl)))
+  not-inside : (o start : ℕ) → ground land start ≡ false → inSubwatershed land outlets o start ≡ false
+  unfolding inSubwatershed
+  not-inside o start z = belongs-end squares (next land) (isOutlet land outlets) start
+      (listed (member start outlets) refl) (rows * cols) o (flows (next land start) refl)
     where
       listed : (b : Bool) → member start outlets ≡ b → b ≡ false
       listed true e =
@@ -178,6 +178,19 @@ module _ {rows cols : ℕ} {codes accumulation outlets : List ℕ} (s : Surveyed
       flows : (t : Option (Link Dir)) → next land start ≡ t → t ≡ none
       flows none e = refl
       flows (some h) e = absurd (true≢false (sym (𝓝 land .solid start h e) ∙ z))
+
+  nowhere : (o start : ℕ) → ground land start ≡ false → 0 ≡ pathLength land outlets o start
+  unfolding pathLength
+  nowhere o start z = sym (rw (not-inside o start z))
+
+  -- so a start from which there is something to draw is a cell of ground
+  pub start-solid : (o start : ℕ) → inSubwatershed land outlets o start ≡ true → ground land start ≡ true
+  unfolding inSubwatershed
+  start-solid o start e = go (ground land start) refl
+    where
+      go : (b : Bool) → ground land start ≡ b → b ≡ true
+      go true v = refl
+      go false v = absurd (true≢false (sym e ∙ not-inside o start v))
 
   -- beyond the grid, and at a null cell
   pub beyond : (o start : ℕ) → rows * cols ≤ start → 0 ≡ pathLength land outlets o start

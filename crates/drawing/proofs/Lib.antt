@@ -4,3 +4,4 @@ pub mod Stepping
 pub mod Following
 pub mod Writing
 pub mod Judging
+pub mod Accepted

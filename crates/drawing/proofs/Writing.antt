@@ -68,10 +68,10 @@ module _ (g : Grid) (start : ℕ) where
     pub written-all : (n : ℕ) → n ≤ length old → written n ≡ overlaid (firstCells g start n) old
     unfolding overlaid
     written-all n h = sym (
-      ap (λ (l : List ℕ). l ++ drop (length (firstCells g start n)) old)
-          (take-all (length old) (firstCells g start n) (omega (arith, cells-length n)))
-          ∙ ap (λ (m : ℕ). firstCells g start n ++ drop m old) (cells-length n)
-    )
+        ap (λ (l : List ℕ). l ++ drop (length (firstCells g start n)) old)
+        (take-all (length old) (firstCells g start n) (omega (arith, cells-length n)))
+        ∙ ap (λ (m : ℕ). firstCells g start n ++ drop m old) (cells-length n)
+        )
 
 -- while `left` cells are still to be written
 pub record Writing (rows cols : ℕ) (codes : List ℕ) (start count : ℕ) (old new : List ℕ) (w : Walk) (left : ℕ)

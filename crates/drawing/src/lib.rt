@@ -209,11 +209,17 @@ fn judge(
     let cell = index_of(start);
     let count = path_length(rows, cols, codes, accumulation, outlets, outlet, cell);
     if count == 0 {
-        return Drawn { number: 22, count: 0 };
+        return Drawn {
+            number: 22,
+            count: 0,
+        };
     }
     let room = places.len();
     if room < count {
-        return Drawn { number: 23, count: 0 };
+        return Drawn {
+            number: 23,
+            count: 0,
+        };
     }
     Drawn { number: 0, count }
 }

@@ -1,21 +1,34 @@
+-- `drawing::draw` meets its contract: the first places, as many as `draw_into` tells, are the part.
+-- Assumes nothing.
+use mathlib.Core.Path.{_≡_, refl, sym, ap, _∙_}
+use lib.ListN.{length, take}
 use borrow.Author.Needs.{needs}
+use Rattle.answers.specs.Drawing.{drawnPart}
+use Rattle.drawing.proofs.Accepted.{part-taken}
 use Rattle.drawing.proofs.draw.Statement.{statement}
 use Rattle.drawing.proofs.draw.Tie as tie
-use Rattle.drawing.proofs.draw.Reads as reads
-use Rattle.drawing.proofs.draw.Lts as lts
-use Rattle.drawing.proofs.draw_into.Reads as draw-into-reads
 
--- src/lib.rt:276:9
+taken : (c : tie.After-places2) → let d = c .before .before .before in
+    let a = d .before .before .before .before .before .before .args in
+    take (d .draw-into .result .count) (d .draw-into .last .1 .1 .1 .1 .1 .1 .1 .0)
+    ≡ drawnPart (a .rows) (a .cols) (a .codes .now) (a .accumulation .now) (a .outlets .now) (a .place) (a .start)
+    (a .places .now)
+taken c =
+    let d = c .before .before .before in
+    let a = d .before .before .before .before .before .before .args in
+    ap (take (d .draw-into .result .count)) (d .draw-into .ensures .1 .1)
+    ∙ part-taken (a .rows) (a .cols) (a .codes .now) (a .accumulation .now) (a .outlets .now) (a .place) (a .start)
+    (a .places .now) (d .draw-into .ensures .1 .0)
+
 draw-into-requires : tie.Need-draw-into-requires
 draw-into-requires c κs = search needs
 
--- src/lib.rt:287:5
 slice-aggregate-result : tie.Need-slice-aggregate-result
-slice-aggregate-result c = ?
+slice-aggregate-result c =
+    c .before .before .before .draw-into .ensures .1 .0 ∙ sym (ap length (taken c))
 
--- src/lib.rt:261:1
 returns : tie.Need-returns
-returns c = ?
+returns c = (taken c, refl)
 
 pub draw-spec : {M : Type 1} → statement M
 draw-spec = tie.close (tie.spec draw-into-requires slice-aggregate-result returns)

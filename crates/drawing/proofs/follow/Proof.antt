@@ -12,13 +12,6 @@ use Rattle.drawing.proofs.Following.{Following, size, outlet-in, begun,
 use Rattle.drawing.proofs.Following.{arrived, elsewhere, lost, one-step, goes-on}
 use Rattle.drawing.proofs.follow.Statement.{statement}
 use Rattle.drawing.proofs.follow.Tie as tie
-use Rattle.drawing.proofs.follow.Reads as reads
-use Rattle.drawing.proofs.follow.Lts as lts
-use Rattle.drawing.proofs.mark_after.Reads as mark-after-reads
-use Rattle.drawing.proofs.meets_outlet.Reads as meets-outlet-reads
-use Rattle.drawing.proofs.walk_from.Reads as walk-from-reads
-use Rattle.ground.proofs.Walk.step.Reads as step-reads
-use Rattle.ground.proofs.index_of.Reads as index-of-reads
 
 abbrev Inv-loop : tie.InvT-loop
 Inv-loop rows cols codes accumulation outlets outlet start walk₀ cell₀ mark₀ walk cell mark =
@@ -28,17 +21,14 @@ abbrev μ-loop : tie.MeasureT-loop
 μ-loop rows cols codes accumulation outlets outlet start walk₀ cell₀ mark₀ walk cell mark =
     rows * cols - (walk .straight + walk .diagonal)
 
--- src/lib.rt:105:9
 walk-from-requires : tie.Need-walk-from-requires Inv-loop μ-loop
 walk-from-requires c κs = c .before .before .before .pre .0 .some-cols
 
--- src/lib.rt:108:5
 loop-holds : tie.Need-loop-holds Inv-loop μ-loop
 loop-holds c =
     let s = c .before .before .before .before in
     begun (s .pre .0) (s .args .outlet) (s .args .start) (s .pre .1 .0) (s .pre .1 .1) (c .walk-from .ensures)
 
--- src/lib.rt:109:12
 meets-outlet-requires : tie.Need-meets-outlet-requires Inv-loop μ-loop
 meets-outlet-requires c κs =
     let s = c .before .before .before .before .before in
@@ -55,28 +45,23 @@ no-outlet : (e : tie.Else1 Inv-loop μ-loop)
     → member (loop-at e .loop .cell) (start-of (loop-at e) .args .outlets .now) ≡ false
 no-outlet e = sym (e .before .meets-outlet .ensures) ∙ e .if1 .left
 
--- src/lib.rt:111:17
 returns : tie.Need-returns Inv-loop μ-loop
 returns c =
     let l = c .before .before .before in
     elsewhere (start-of l .pre .0) (l .loop .inv) (sym (c .before .before .meets-outlet .ensures) ∙ c .before .if1 .taken)
     (c .if2 .taken)
 
--- src/lib.rt:113:29
 add-index-of : tie.Need-add-index-of Inv-loop μ-loop
 add-index-of c =
     let l = c .before .before .before .before in
     omega (arith, size (start-of l .pre .0), few-steps (start-of l .pre .0) (l .loop .inv) .1)
 
--- src/lib.rt:113:20
 index-of-requires : tie.Need-index-of-requires Inv-loop μ-loop
 index-of-requires c κs = search needs
 
--- src/lib.rt:113:20
 add-result : tie.Need-add-result Inv-loop μ-loop
 add-result c = omega (arith, c .index-of .ensures .1)
 
--- src/lib.rt:113:13
 returns-2 : tie.Need-returns-2 Inv-loop μ-loop
 returns-2 c =
     let t = c .before .before in
@@ -88,7 +73,6 @@ returns-2 c =
           (t .if2 .left),
     )
 
--- src/lib.rt:115:9
 mark-after-requires : tie.Need-mark-after-requires Inv-loop μ-loop
 mark-after-requires c κs =
     let l = loop-at c in
@@ -97,16 +81,13 @@ mark-after-requires c κs =
       (omega (arith, cell-in s (l .loop .inv), s .has-accumulation), l .loop .inv .quiet),
     )
 
--- src/lib.rt:116:9
 step-requires : tie.Need-step-requires Inv-loop μ-loop
 step-requires c κs = let l = loop-at (c .before) in on-grid (start-of l .pre .0) (l .loop .inv)
 
--- src/lib.rt:117:18
 mul-to : tie.Need-mul-to Inv-loop μ-loop
 mul-to c = let s = start-of (loop-at (c .before .before .before)) in
     omega (arith, size (s .pre .0), digits-lt (c .before .step .ensures .row-in) (c .before .step .ensures .col-in))
 
--- src/lib.rt:117:18
 add-to : tie.Need-add-to Inv-loop μ-loop
 add-to c = let s = start-of (loop-at (c .before .before .before .before)) in
     omega (
@@ -115,14 +96,12 @@ add-to c = let s = start-of (loop-at (c .before .before .before .before)) in
       digits-lt (c .before .before .step .ensures .row-in) (c .before .before .step .ensures .col-in),
     )
 
--- src/lib.rt:119:13
 returns-3 : tie.Need-returns-3 Inv-loop μ-loop
 returns-3 c =
     let e = c .before .before .before .before .before in
     let l = loop-at e in
     lost (start-of l .pre .0) (l .loop .inv) (no-outlet e) (c .before .before .before .step .ensures) (c .if3 .taken)
 
--- src/lib.rt:108:5
 loop-less : tie.Need-loop-less Inv-loop μ-loop
 loop-less c =
     let e = c .before .before .before .before .before in
@@ -133,7 +112,6 @@ loop-less c =
       one-step (start-of l .pre .0) (l .loop .inv) (no-outlet e) (c .before .before .before .step .ensures) (c .if3 .left),
     )
 
--- src/lib.rt:108:5
 loop-again : tie.Need-loop-again Inv-loop μ-loop
 loop-again c =
     let e = c .before .before .before .before .before in

@@ -4,20 +4,14 @@ use mathlib.Core.Path.{_≡_, sym, ap₂, _∙_}
 use Prim.Native.Nat.{_≤_, _<_}
 use native.Mathlib.Omega.{arith}
 use lib.ListN.{length, getD}
+use borrow.Author.Needs.{needs}
 use Rattle.ground.specs.Grid.{gridOf}
 use Rattle.answers.specs.Checks.{firstFailed}
 use Rattle.drawing.specs.Measuring.{pathLength}
 use Rattle.drawing.proofs.Judging.{choosing, surveyed, chosen, refused-early, refused-22, refused-23, accepted}
-use borrow.Author.Needs.{needs}
 use Rattle.drawing.proofs.judge.Statement.{statement}
 use Rattle.drawing.proofs.judge.Tie as tie
-use Rattle.drawing.proofs.judge.Reads as reads
-use Rattle.drawing.proofs.judge.Lts as lts
-use Rattle.checks.proofs.chosen_number.Reads as chosen-number-reads
-use Rattle.drawing.proofs.path_length.Reads as path-length-reads
-use Rattle.ground.proofs.index_of.Reads as index-of-reads
 
--- src/lib.rt:196:9
 chosen-number-requires : tie.Need-chosen-number-requires
 chosen-number-requires c κs = search needs
 
@@ -47,36 +41,29 @@ measured p = let a = start-of (passed-at p) .args in
     ∙ ap₂ (pathLength (gridOf (a .rows) (a .cols) (a .codes .now)) (a .outlets .now))
     (p .before .before .index-of .ensures .0) (p .before .index-of2 .ensures .0)
 
--- src/lib.rt:206:9
 returns : tie.Need-returns
 returns c = let a = c .before .before .before .before .before .before .args in
     refused-early (a .rows) (a .cols) (a .codes .now) (a .accumulation .now) (a .outlets .now) (a .place) (a .start)
     (a .places .now) (c .before .chosen-number .ensures) (c .if1 .taken)
 
--- src/lib.rt:208:27
 mul-index-of : tie.Need-mul-index-of
 mul-index-of c = omega (arith, chosen-at c)
 
--- src/lib.rt:208:27
 shared-slice-read-index-of : tie.Need-shared-slice-read-index-of
 shared-slice-read-index-of c = chosen-at (c .before) .0
 
--- src/lib.rt:208:9
 index-of-requires : tie.Need-index-of-requires
 index-of-requires c κs = search needs
 
--- src/lib.rt:209:9
 index-of-requires-2 : tie.Need-index-of-requires-2
 index-of-requires-2 c κs = search needs
 
--- src/lib.rt:210:9
 path-length-requires : tie.Need-path-length-requires
 path-length-requires c κs =
     let e = c .before .before .before in
     let a = start-of e .args in
     surveyed (a .rows) (a .cols) (a .codes .now) (a .accumulation .now) (a .outlets .now) (a .place) (passes e)
 
--- src/lib.rt:212:9
 returns-2 : tie.Need-returns-2
 returns-2 c =
     let p = c .before in
@@ -84,7 +71,6 @@ returns-2 c =
     refused-22 (a .rows) (a .cols) (a .codes .now) (a .accumulation .now) (a .outlets .now) (a .place) (a .start)
     (a .places .now) (passes (passed-at p)) (measured p) (c .if2 .taken)
 
--- src/lib.rt:216:9
 returns-3 : tie.Need-returns-3
 returns-3 c =
     let p = c .before .before in
@@ -92,7 +78,6 @@ returns-3 c =
     refused-23 (a .rows) (a .cols) (a .codes .now) (a .accumulation .now) (a .outlets .now) (a .place) (a .start)
     (a .places .now) (passes (passed-at p)) (measured p) (c .before .if2 .left) (c .if3 .taken)
 
--- src/lib.rt:179:1
 returns-4 : tie.Need-returns-4
 returns-4 c =
     let p = c .before .before in

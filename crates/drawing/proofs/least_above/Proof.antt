@@ -9,10 +9,6 @@ use Rattle.drawing.specs.Measuring.{Quiet}
 use Rattle.drawing.proofs.Marks.{quiet-none, quiet-more}
 use Rattle.drawing.proofs.least_above.Statement.{statement}
 use Rattle.drawing.proofs.least_above.Tie as tie
-use Rattle.drawing.proofs.least_above.Reads as reads
-use Rattle.drawing.proofs.least_above.Lts as lts
-use Rattle.drawing.proofs.lower_above.Reads as lower-above-reads
-use Rattle.ground.proofs.index_of.Reads as index-of-reads
 
 abbrev Inv-loop : tie.InvT-loop
 Inv-loop accumulation outlets value least₀ j₀ least j =
@@ -21,56 +17,47 @@ Inv-loop accumulation outlets value least₀ j₀ least j =
 abbrev μ-loop : tie.MeasureT-loop
 μ-loop accumulation outlets value least₀ j₀ least j = length outlets - j
 
--- src/lib.rt:55:5
 loop-holds : tie.Need-loop-holds Inv-loop μ-loop
 loop-holds c = (search needs, quiet-none)
 
--- src/lib.rt:56:27
 mul-index-of : tie.Need-mul-index-of Inv-loop μ-loop
 mul-index-of c = search needs
 
--- src/lib.rt:56:27
 shared-slice-read-index-of : tie.Need-shared-slice-read-index-of Inv-loop μ-loop
 shared-slice-read-index-of c = search needs
 
--- src/lib.rt:56:13
 index-of-requires : tie.Need-index-of-requires Inv-loop μ-loop
 index-of-requires c κs = search needs
 
--- src/lib.rt:57:43
 mul-lower-above : tie.Need-mul-lower-above Inv-loop μ-loop
 mul-lower-above c = search needs
 
--- src/lib.rt:57:43
 shared-slice-read-lower-above : tie.Need-shared-slice-read-lower-above Inv-loop μ-loop
 shared-slice-read-lower-above c =
     let l = c .before .before .before .before in
     let s = l .before .before .before in
     omega (arith, c .before .index-of .ensures .0, s .pre (l .loop .j) (search needs))
 
--- src/lib.rt:57:9
 lower-above-requires : tie.Need-lower-above-requires Inv-loop μ-loop
 lower-above-requires c κs = search needs
 
--- src/lib.rt:58:9
 add-j : tie.Need-add-j Inv-loop μ-loop
 add-j c = search needs
 
--- src/lib.rt:55:5
 loop-less : tie.Need-loop-less Inv-loop μ-loop
 loop-less c = search needs
 
--- src/lib.rt:55:5
 loop-again : tie.Need-loop-again Inv-loop μ-loop
 loop-again c =
     let l = c .before .before .before .before .before in
     let s = l .before .before .before in
-    let e = c .before .before .index-of .ensures .0 in
-    (search needs, quiet-more (l .loop .inv .1) (c .lower-above .ensures .0)
-    (subst (λ (x : ℕ). getD (s .args .accumulation .now) x 0 < c .lower-above .result
-    → getD (s .args .accumulation .now) x 0 ≤ s .args .value) e (c .lower-above .ensures .1)))
+    let e = c .before .before .index-of .ensures .0 in (
+      search needs,
+      quiet-more (l .loop .inv .1) (c .lower-above .ensures .0)
+          (subst (λ (x : ℕ). getD (s .args .accumulation .now) x 0 < c .lower-above .result
+          → getD (s .args .accumulation .now) x 0 ≤ s .args .value) e (c .lower-above .ensures .1)),
+    )
 
--- src/lib.rt:49:1
 returns : tie.Need-returns Inv-loop μ-loop
 returns c =
     let l = c .before in

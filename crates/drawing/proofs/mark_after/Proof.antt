@@ -1,31 +1,23 @@
 -- `drawing::mark_after` meets its contract: the mark stays until the accumulation comes up to it.
 -- Assumes nothing.
 use native.Mathlib.Omega.{arith}
-use Rattle.drawing.proofs.Marks.{quiet-higher}
 use borrow.Author.Needs.{needs}
+use Rattle.drawing.proofs.Marks.{quiet-higher}
 use Rattle.drawing.proofs.mark_after.Statement.{statement}
 use Rattle.drawing.proofs.mark_after.Tie as tie
-use Rattle.drawing.proofs.mark_after.Reads as reads
-use Rattle.drawing.proofs.mark_after.Lts as lts
-use Rattle.drawing.proofs.least_above.Reads as least-above-reads
 
--- src/lib.rt:71:17
 mul-value : tie.Need-mul-value
 mul-value c = search needs
 
--- src/lib.rt:71:17
 shared-slice-read-value : tie.Need-shared-slice-read-value
 shared-slice-read-value c = search needs
 
--- src/lib.rt:73:9
 returns : tie.Need-returns
 returns c = quiet-higher _ (omega arith) (c .before .before .before .before .pre .1 .1)
 
--- src/lib.rt:75:5
 least-above-requires : tie.Need-least-above-requires
 least-above-requires c κs = search needs
 
--- src/lib.rt:64:1
 returns-2 : tie.Need-returns-2
 returns-2 c = search needs
 

@@ -6,11 +6,6 @@ use borrow.Author.Needs.{needs}
 use Rattle.drawing.proofs.Writing.{Writing, writing-none, inside, long, writing-on-grid, writing-more, writing-all}
 use Rattle.drawing.proofs.write_cells.Statement.{statement}
 use Rattle.drawing.proofs.write_cells.Tie as tie
-use Rattle.drawing.proofs.write_cells.Reads as reads
-use Rattle.drawing.proofs.write_cells.Lts as lts
-use Rattle.drawing.proofs.cell_number.Reads as cell-number-reads
-use Rattle.drawing.proofs.walk_from.Reads as walk-from-reads
-use Rattle.ground.proofs.Walk.step.Reads as step-reads
 
 abbrev Inv-loop : tie.InvT-loop
 Inv-loop rows cols codes start count places₀ walk₀ left₀ places walk left =
@@ -23,59 +18,47 @@ abbrev μ-loop : tie.MeasureT-loop
 abbrev start-of : tie.At-loop Inv-loop μ-loop → tie.Start Inv-loop μ-loop
 start-of l = l .before .before .before .before
 
--- src/lib.rt:168:9
 walk-from-requires : tie.Need-walk-from-requires Inv-loop μ-loop
 walk-from-requires c κs = c .before .before .pre .some-cols
 
--- src/lib.rt:170:5
 loop-holds : tie.Need-loop-holds Inv-loop μ-loop
 loop-holds c = writing-none _ (c .before .before .before .pre) (c .walk-from .ensures)
 
--- src/lib.rt:171:18
 sub-at : tie.Need-sub-at Inv-loop μ-loop
 sub-at c = c .before .loop .inv .at-most
 
--- src/lib.rt:172:22
 cell-number-requires : tie.Need-cell-number-requires Inv-loop μ-loop
 cell-number-requires c κs = inside _ (start-of (c .before) .pre) (c .before .loop .inv)
 
--- src/lib.rt:172:9
 mul-places : tie.Need-mul-places Inv-loop μ-loop
 mul-places c = search needs
 
--- src/lib.rt:172:9
 slice-write-places : tie.Need-slice-write-places Inv-loop μ-loop
 slice-write-places c =
     let l = c .before .before in
     let s = start-of l in
     omega (arith, c .before .loop-test .taken, l .loop .inv .at-most, s .pre .has-room, long _ (s .pre) (l .loop .inv))
 
--- src/lib.rt:173:9
 step-requires : tie.Need-step-requires Inv-loop μ-loop
 step-requires c κs =
     let l = c .before .before in
     writing-on-grid _ (start-of l .pre) (l .loop .inv) (c .before .loop-test .taken)
 
--- src/lib.rt:174:9
 sub-left : tie.Need-sub-left Inv-loop μ-loop
 sub-left c = search needs
 
--- src/lib.rt:170:5
 loop-less : tie.Need-loop-less Inv-loop μ-loop
 loop-less c = omega (arith, c .before .before .loop-test .taken)
 
--- src/lib.rt:170:5
 loop-again : tie.Need-loop-again Inv-loop μ-loop
 loop-again c =
     let l = c .before .before .before in
     writing-more _ (start-of l .pre) (l .loop .inv) (c .before .before .loop-test .taken) (c .before .cell-number .ensures)
     (c .step .ensures)
 
--- src/lib.rt:156:1
 same-length : tie.Need-same-length Inv-loop μ-loop
 same-length c = long _ (start-of (c .before) .pre) (c .before .loop .inv)
 
--- src/lib.rt:156:1
 returns : tie.Need-returns Inv-loop μ-loop
 returns c = writing-all _ (start-of (c .before) .pre) (c .before .loop .inv) (omega (arith, c .loop-test .left))
 
