@@ -2,15 +2,15 @@
 -- passed.
 -- Assumes nothing.
 use mathlib.Core.Path.{_≡_, refl, sym, ap, _∙_, subst}
-use mathlib.Core.Bool.{Bool, true, false, cond, not, true≢false}
-use mathlib.Core.List.{List, [], _∷_}
+use mathlib.Core.Bool.{Bool, true, false, _&&_, true≢false}
+use mathlib.Core.List.{List}
 use mathlib.Core.Option.{Option, none, some}
 use Prim.Native.Nat.{ℕ, zero, suc, _+_, _*_, _≤_, _<_, _^_}
 use native.Mathlib.Nat.{mul-le-mul}
 use native.Mathlib.Omega.{arith}
 use lib.ListN.{length, getD}
-use lib.Dec.{eqb}
-use borrow.Author.Tests.{eq-eqb, ne-eqb}
+use lib.Dec.{ltb}
+use borrow.Author.Tests.{eq-eqb, ne-eqb, lt-ltb}
 use Rattle.ground.specs.declared.Walk.{Walk}
 use Rattle.ground.specs.Lists.{member}
 use Rattle.ground.specs.Compass.{Dir, squares}
@@ -18,9 +18,9 @@ use Rattle.ground.specs.Grid.{Grid, Link, gridOf, ground, next, inflows}
 use Rattle.ground.specs.Moves.{OnGrid, WalkedOn}
 use Rattle.ground.specs.Subwatershed.{walked, belongs, isOutlet, inSubwatershed, pathFrom}
 use Rattle.ground.proofs.Agreement.{Agrees, fewer-next}
-use Rattle.ground.proofs.Cells.{code-outside, in-rows}
+use Rattle.ground.proofs.Cells.{in-rows}
 use Rattle.ground.proofs.Ground.{𝓝, lent, at-most-places}
-use Rattle.checks.proofs.Cells.{null-at, ground-at}
+use Rattle.checks.specs.Lent.{isPlaced}
 use Rattle.drawing.specs.Measuring.{Surveyed, Quiet, pathLength}
 use Rattle.drawing.proofs.Marks.{place-of, quiet-higher}
 use Rattle.drawing.proofs.Walked.{walked-out, belongs-out, walked-next, belongs-next, belongs-end}
@@ -58,13 +58,13 @@ module _ {rows cols : ℕ} {codes accumulation outlets : List ℕ} (s : Surveyed
   positive x v = omega (arith, lent land accumulation (s .agreement) x v)
 
   -- IT BEGINS at a cell of ground
-  pub begun : (o start : ℕ) {w : Walk} → start < rows * cols → (getD codes start 0 ≡ 0 → ⊥)
+  pub begun : (o start : ℕ) {w : Walk} → ground land start ≡ true
       → (w .row * cols + w .col ≡ start) × (w .col < cols) × (w .straight ≡ 0) × (w .diagonal ≡ 0)
       → Following rows cols codes accumulation outlets o start w start 0
   unfolding inSubwatershed
-  begun o start {w} h f (is, c, z, y) = record {
+  begun o start {w} solid (is, c, z, y) = record {
     is-cell = is;
-    row-in = in-rows (w .row) (w .col) rows cols (omega (arith, is, h));
+    row-in = in-rows (w .row) (w .col) rows cols (omega (arith, is, 𝓝 land .bounded start solid));
     col-in = c;
     solid = solid;
     grown = omega (arith, z, y, positive start solid);
@@ -74,9 +74,6 @@ module _ {rows cols : ℕ} {codes accumulation outlets : List ℕ} (s : Surveyed
     same-end = refl;
     same-cells = omega (arith, z, y);
   }
-    where
-      solid : ground land start ≡ true
-      solid = ground-at land start h f
 
   module _ {o start : ℕ} {w : Walk} {cell mark : ℕ}
       (f : Following rows cols codes accumulation outlets o start w cell mark) where
@@ -179,10 +176,6 @@ module _ {rows cols : ℕ} {codes accumulation outlets : List ℕ} (s : Surveyed
       flows none e = refl
       flows (some h) e = absurd (true≢false (sym (𝓝 land .solid start h e) ∙ z))
 
-  nowhere : (o start : ℕ) → ground land start ≡ false → 0 ≡ pathLength land outlets o start
-  unfolding pathLength
-  nowhere o start z = sym (rw (not-inside o start z))
-
   -- so a start from which there is something to draw is a cell of ground
   pub start-solid : (o start : ℕ) → inSubwatershed land outlets o start ≡ true → ground land start ≡ true
   unfolding inSubwatershed
@@ -192,9 +185,20 @@ module _ {rows cols : ℕ} {codes accumulation outlets : List ℕ} (s : Surveyed
       go true v = refl
       go false v = absurd (true≢false (sym e ∙ not-inside o start v))
 
-  -- beyond the grid, and at a null cell
-  pub beyond : (o start : ℕ) → rows * cols ≤ start → 0 ≡ pathLength land outlets o start
-  beyond o start h = nowhere o start (ap (λ (c : ℕ). not (eqb c 0)) (code-outside land start h))
+  -- a start as it is tested
+  pub placed-solid : (start : ℕ) → isPlaced land start ≡ true → ground land start ≡ true
+  placed-solid start e = go (ltb start (rows * cols)) e
+    where
+      go : (b : Bool) → (b && ground land start) ≡ true → ground land start ≡ true
+      go true h = h
+      go false h = absurd (true≢false (sym h))
 
-  pub at-null : (o start : ℕ) → start < rows * cols → getD codes start 0 ≡ 0 → 0 ≡ pathLength land outlets o start
-  at-null o start h e = nowhere o start (null-at land start h e)
+  pub not-placed : (o start : ℕ) → isPlaced land start ≡ false → 0 ≡ pathLength land outlets o start
+  unfolding pathLength
+  not-placed o start z = sym (rw (not-inside o start (null (ground land start) refl)))
+    where
+      null : (b : Bool) → ground land start ≡ b → b ≡ false
+      null true v =
+          let placed : isPlaced land start ≡ true = rw (lt-ltb start (rows * cols) (𝓝 land .bounded start v), v) in
+          absurd (true≢false (sym placed ∙ z))
+      null false v = refl

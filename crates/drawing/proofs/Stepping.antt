@@ -3,7 +3,7 @@
 use mathlib.Core.Path.{_≡_, refl, sym, ap, _∙_}
 use mathlib.Core.List.{List}
 use mathlib.Core.Option.{Option, none, some}
-use Prim.Native.Nat.{ℕ, _+_, _*_, _≤_, _<_}
+use Prim.Native.Nat.{ℕ, _+_, _*_, _≤_}
 use native.Mathlib.Omega.{arith}
 use Rattle.lengths.specs.declared.Length.{Length}
 use Rattle.lengths.specs.declared.Step.{Step}
@@ -13,7 +13,7 @@ use Rattle.ground.specs.declared.Walk.{Walk}
 use Rattle.ground.specs.Compass.{Dir, stepOf}
 use Rattle.ground.specs.Grid.{Grid, Link, gridOf, next}
 use Rattle.ground.specs.Walk.{At}
-use Rattle.ground.specs.Moves.{stateOf, steppedOn, WalkedOn}
+use Rattle.ground.specs.Moves.{stateOf, WalkedOn}
 use Rattle.ground.proofs.Moves.{state-ends, state-goes, next-moves}
 use Rattle.drawing.specs.Cells.{cellOn}
 

@@ -1,7 +1,7 @@
 -- The first cells of a walk that stays at its end, as the code's walk does.
 -- Assumes nothing.
 use mathlib.Core.List.{List, map}
-use mathlib.Core.Option.{Option, none, some}
+use mathlib.Core.Option.{none, some}
 use Prim.Native.Nat.{ℕ, zero, suc, _*_, _≤_, _<_}
 use lib.ListN.{length}
 use Rattle.ground.specs.Lists.{upTo}

@@ -8,6 +8,8 @@ use lib.ListN.{length, getD}
 use Rattle.ground.specs.Grid.{Grid, gridOf, ground}
 use Rattle.ground.specs.Accumulation.{agrees}
 use Rattle.ground.specs.Subwatershed.{inSubwatershed, pathFrom}
+use Rattle.answers.specs.Drawing.{drawNumber, drawnPart}
+use Rattle.drawing.specs.declared.Drawn.{Drawn}
 
 -- the sizes are allowed, the accumulation agrees, and every outlet is a cell of ground
 pub record Surveyed (rows cols : ℕ) (codes accumulation outlets : List ℕ) : Type 0 where
@@ -28,3 +30,12 @@ pub record Quiet (n : ℕ) (accumulation outlets : List ℕ) (value mark : ℕ) 
 -- how many cells are to be drawn: those of the path, and none where the start is not in the subwatershed
 unfoldable pub pathLength : Grid → List ℕ → ℕ → ℕ → ℕ
 pathLength g outlets o start = cond (inSubwatershed g outlets o start) (length (pathFrom g outlets start)) 0
+
+abbrev pub toldOf : ℕ → ℕ → Drawn
+toldOf number count = record { number = number; count = count }
+
+-- what is told before anything is written: the number, and how many cells there are to write
+pub record Judged (rows cols : ℕ) (codes accumulation outlets : List ℕ) (place start : ℕ) (places : List ℕ) (d : Drawn)
+    : Type 0 where
+  pub answers : d .number ≡ drawNumber rows cols codes accumulation outlets place start places
+  pub counts : d .count ≡ length (drawnPart rows cols codes accumulation outlets place start places)

@@ -1,16 +1,18 @@
 // Drawing one flow path: the cells of a walk, from its start to its outlet.
 use checks::chosen_number;
+use checks::is_placed;
 use ground::Walk;
 use ground::index_of;
 use upstream::is_outlet;
 ghost use mathlib.Core.Path.{_≡_};
+ghost use mathlib.Core.Bool.{true};
 ghost use Prim.Native.Nat.{ℕ, _+_, _*_, _≤_, _<_, _^_};
 ghost use lib.ListN.{length, getD};
 ghost use Rattle.ground.specs.Lists.{member};
-ghost use Rattle.ground.specs.Grid.{gridOf};
+ghost use Rattle.ground.specs.Grid.{gridOf, ground};
 ghost use Rattle.answers.specs.Entries.{overlaid};
 ghost use Rattle.answers.specs.Drawing.{drawNumber, drawLeaves, drawnPart};
-ghost use Rattle.drawing.specs.Measuring.{Surveyed, Quiet, pathLength};
+ghost use Rattle.drawing.specs.Measuring.{Surveyed, Quiet, pathLength, toldOf, Judged};
 ghost use Rattle.drawing.specs.Cells.{firstCells, Drawable};
 
 // What drawing answers: the number, and how many of the lent places hold the path. The count is 0 on refusal.
@@ -99,7 +101,7 @@ fn follow(
     start: usize,
 ) -> usize
     requires { ⌜ Surveyed rows cols (now codes) (now accumulation) (now outlets) ⌝ }
-    requires { ⌜ (start < rows * cols) × (getD (now codes) start 0 ≡ 0 → ⊥) ⌝ }
+    requires { ⌜ ground (gridOf rows cols (now codes)) start ≡ true ⌝ }
     ensures { λ r. ⌜ r ≡ pathLength (gridOf rows cols (now (codes .entry))) (now (outlets .entry)) outlet start ⌝ }
 {
     let mut walk = walk_from(cols, start);
@@ -122,26 +124,25 @@ fn follow(
     }
 }
 
-// The number of cells of the path from any start; 0 where the start is beyond the grid, null, or not the outlet's.
+// The number of cells of the path from any start; 0 where the start is beyond the grid, null, or not the outlet's own.
 fn path_length(
     rows: usize,
     cols: usize,
     codes: &[u8],
     accumulation: &[u32],
     outlets: &[u32],
-    outlet: usize,
-    start: usize,
+    outlet: u32,
+    start: u32,
 ) -> usize
     requires { ⌜ Surveyed rows cols (now codes) (now accumulation) (now outlets) ⌝ }
     ensures { λ r. ⌜ r ≡ pathLength (gridOf rows cols (now (codes .entry))) (now (outlets .entry)) outlet start ⌝ }
 {
-    if rows * cols <= start {
-        return 0;
+    if is_placed(rows, cols, codes, start) {
+        let from = index_of(start);
+        let to = index_of(outlet);
+        return follow(rows, cols, codes, accumulation, outlets, to, from);
     }
-    if codes[start] == 0 {
-        return 0;
-    }
-    follow(rows, cols, codes, accumulation, outlets, outlet, start)
+    0
 }
 
 // A cell number of the grid, as it is lent.
@@ -175,6 +176,12 @@ fn write_cells(
     }
 }
 
+fn told(number: u32, count: usize) -> Drawn
+    ensures { λ r. ⌜ r ≡ toldOf number count ⌝ }
+{
+    Drawn { number, count }
+}
+
 // Judges a drawing: 10, 11, 12, 14 to 18, 22, 23. The walk is measured and nothing is written.
 fn judge(
     rows: usize,
@@ -186,12 +193,8 @@ fn judge(
     start: u32,
     places: &[u32],
 ) -> Drawn
-    ensures answers { λ r. ⌜ r .number
-        ≡ drawNumber rows cols (now (codes .entry)) (now (accumulation .entry)) (now (outlets .entry)) place start
-        (now (places .entry)) ⌝ }
-    ensures counts { λ r. ⌜ r .count
-        ≡ length (drawnPart rows cols (now (codes .entry)) (now (accumulation .entry)) (now (outlets .entry)) place start
-        (now (places .entry))) ⌝ }
+    ensures { λ r. ⌜ Judged rows cols (now (codes .entry)) (now (accumulation .entry)) (now (outlets .entry)) place start
+        (now (places .entry)) r ⌝ }
 {
     let number = chosen_number(
         rows,
@@ -203,25 +206,18 @@ fn judge(
         accumulation.len(),
     );
     if number != 0 {
-        return Drawn { number, count: 0 };
+        return told(number, 0);
     }
-    let outlet = index_of(outlets[place]);
-    let cell = index_of(start);
-    let count = path_length(rows, cols, codes, accumulation, outlets, outlet, cell);
+    let outlet = outlets[place];
+    let count = path_length(rows, cols, codes, accumulation, outlets, outlet, start);
     if count == 0 {
-        return Drawn {
-            number: 22,
-            count: 0,
-        };
+        return told(22, 0);
     }
     let room = places.len();
     if room < count {
-        return Drawn {
-            number: 23,
-            count: 0,
-        };
+        return told(23, 0);
     }
-    Drawn { number: 0, count }
+    told(0, count)
 }
 
 // Draws the path from a start to an outlet of the list into the first places, the start first and the outlet last: 10, 11,

@@ -3,22 +3,22 @@
 use mathlib.Core.Path.{_≡_, refl, sym, ap, _∙_}
 use lib.ListN.{length, take}
 use borrow.Author.Needs.{needs}
-use Rattle.answers.specs.Drawing.{drawnPart}
+use Rattle.drawing.proofs.Judging.{Call, callOf, part}
 use Rattle.drawing.proofs.Accepted.{part-taken}
 use Rattle.drawing.proofs.draw.Statement.{statement}
 use Rattle.drawing.proofs.draw.Tie as tie
 
+abbrev call : tie.Start → Call
+call s = let a = s .args in
+    callOf (a .rows) (a .cols) (a .codes .now) (a .accumulation .now) (a .outlets .now) (a .place) (a .start) (a .places .now)
+
 taken : (c : tie.After-places2) → let d = c .before .before .before in
-    let a = d .before .before .before .before .before .before .args in
     take (d .draw-into .result .count) (d .draw-into .last .1 .1 .1 .1 .1 .1 .1 .0)
-    ≡ drawnPart (a .rows) (a .cols) (a .codes .now) (a .accumulation .now) (a .outlets .now) (a .place) (a .start)
-    (a .places .now)
+    ≡ part (call (d .before .before .before .before .before .before))
 taken c =
     let d = c .before .before .before in
-    let a = d .before .before .before .before .before .before .args in
     ap (take (d .draw-into .result .count)) (d .draw-into .ensures .1 .1)
-    ∙ part-taken (a .rows) (a .cols) (a .codes .now) (a .accumulation .now) (a .outlets .now) (a .place) (a .start)
-    (a .places .now) (d .draw-into .ensures .1 .0)
+    ∙ part-taken (call (d .before .before .before .before .before .before)) (d .draw-into .ensures .1 .0)
 
 draw-into-requires : tie.Need-draw-into-requires
 draw-into-requires c κs = search needs

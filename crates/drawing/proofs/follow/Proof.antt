@@ -27,7 +27,7 @@ walk-from-requires c κs = c .before .before .before .pre .0 .some-cols
 loop-holds : tie.Need-loop-holds Inv-loop μ-loop
 loop-holds c =
     let s = c .before .before .before .before in
-    begun (s .pre .0) (s .args .outlet) (s .args .start) (s .pre .1 .0) (s .pre .1 .1) (c .walk-from .ensures)
+    begun (s .pre .0) (s .args .outlet) (s .args .start) (s .pre .1) (c .walk-from .ensures)
 
 meets-outlet-requires : tie.Need-meets-outlet-requires Inv-loop μ-loop
 meets-outlet-requires c κs =

@@ -1,101 +1,85 @@
--- `drawing::judge` meets its contract.
+-- `drawing::judge` meets its contract: a law for each number that is told.
 -- Assumes nothing.
-use mathlib.Core.Path.{_≡_, sym, ap₂, _∙_}
-use Prim.Native.Nat.{_≤_, _<_}
+use mathlib.Core.Path.{_≡_, sym, _∙_}
 use native.Mathlib.Omega.{arith}
-use lib.ListN.{length, getD}
 use borrow.Author.Needs.{needs}
-use Rattle.ground.specs.Grid.{gridOf}
 use Rattle.answers.specs.Checks.{firstFailed}
-use Rattle.drawing.specs.Measuring.{pathLength}
-use Rattle.drawing.proofs.Judging.{choosing, surveyed, chosen, refused-early, refused-22, refused-23, accepted}
+use Rattle.drawing.proofs.Judging.{Call, callOf, choosing, surveyed, chosen}
+use Rattle.drawing.proofs.Judging.{refused-early, refused-22, refused-23, accepted}
 use Rattle.drawing.proofs.judge.Statement.{statement}
 use Rattle.drawing.proofs.judge.Tie as tie
 
 chosen-number-requires : tie.Need-chosen-number-requires
 chosen-number-requires c κs = search needs
 
--- the start, seen from where 10 to 18 are passed
-abbrev start-of : tie.Else1 → tie.Start
-start-of e = e .before .before .before .before .before .before
+abbrev call : tie.Start → Call
+call s = let a = s .args in
+    callOf (a .rows) (a .cols) (a .codes .now) (a .accumulation .now) (a .outlets .now) (a .place) (a .start) (a .places .now)
 
-passes : (e : tie.Else1) → let a = start-of e .args in
-    firstFailed (choosing (a .rows) (a .cols) (a .codes .now) (a .accumulation .now) (a .outlets .now) (a .place)) ≡ 0
+-- the call, seen from where 10 to 18 are passed
+abbrev call-of : tie.Else1 → Call
+call-of e = call (e .before .before .before .before .before .before)
+
+passes : (e : tie.Else1) → firstFailed (choosing (call-of e)) ≡ 0
 passes e = sym (e .before .chosen-number .ensures) ∙ e .if1 .left
 
-chosen-at : (e : tie.Else1) → let a = start-of e .args in
-    (a .place < length (a .outlets .now)) × (length (a .outlets .now) ≤ 256)
-chosen-at e = let a = start-of e .args in
-    chosen (a .rows) (a .cols) (a .codes .now) (a .accumulation .now) (a .outlets .now) (a .place) (passes e)
-
--- what is measured
-abbrev passed-at : tie.After-path-length → tie.Else1
-passed-at p = p .before .before .before .before
-
-measured : (p : tie.After-path-length) → let a = start-of (passed-at p) .args in
-    p .path-length .result
-    ≡ pathLength (gridOf (a .rows) (a .cols) (a .codes .now)) (a .outlets .now) (getD (a .outlets .now) (a .place) 0)
-    (a .start)
-measured p = let a = start-of (passed-at p) .args in
-    p .path-length .ensures
-    ∙ ap₂ (pathLength (gridOf (a .rows) (a .cols) (a .codes .now)) (a .outlets .now))
-    (p .before .before .index-of .ensures .0) (p .before .index-of2 .ensures .0)
+told-requires : tie.Need-told-requires
+told-requires c κs = search needs
 
 returns : tie.Need-returns
-returns c = let a = c .before .before .before .before .before .before .args in
-    refused-early (a .rows) (a .cols) (a .codes .now) (a .accumulation .now) (a .outlets .now) (a .place) (a .start)
-    (a .places .now) (c .before .chosen-number .ensures) (c .if1 .taken)
+returns c =
+    rw (c .told .ensures) (refused-early (call (c .before .before .before .before .before .before .before))
+    (c .before .before .chosen-number .ensures) (c .before .if1 .taken))
 
-mul-index-of : tie.Need-mul-index-of
-mul-index-of c = omega (arith, chosen-at c)
+mul-outlet : tie.Need-mul-outlet
+mul-outlet c = omega (arith, chosen (call-of c) (passes c))
 
-shared-slice-read-index-of : tie.Need-shared-slice-read-index-of
-shared-slice-read-index-of c = chosen-at (c .before) .0
-
-index-of-requires : tie.Need-index-of-requires
-index-of-requires c κs = search needs
-
-index-of-requires-2 : tie.Need-index-of-requires-2
-index-of-requires-2 c κs = search needs
+shared-slice-read-outlet : tie.Need-shared-slice-read-outlet
+shared-slice-read-outlet c = chosen (call-of (c .before)) (passes (c .before)) .0
 
 path-length-requires : tie.Need-path-length-requires
-path-length-requires c κs =
-    let e = c .before .before .before in
-    let a = start-of e .args in
-    surveyed (a .rows) (a .cols) (a .codes .now) (a .accumulation .now) (a .outlets .now) (a .place) (passes e)
+path-length-requires c κs = surveyed (call-of (c .before)) (passes (c .before))
+
+told-requires-2 : tie.Need-told-requires-2
+told-requires-2 c κs = search needs
 
 returns-2 : tie.Need-returns-2
 returns-2 c =
-    let p = c .before in
-    let a = start-of (passed-at p) .args in
-    refused-22 (a .rows) (a .cols) (a .codes .now) (a .accumulation .now) (a .outlets .now) (a .place) (a .start)
-    (a .places .now) (passes (passed-at p)) (measured p) (c .if2 .taken)
+    let p = c .before .before in
+    let e = p .before .before in
+    rw (c .told2 .ensures) (refused-22 (call-of e) (passes e) (p .path-length .ensures) (c .before .if2 .taken))
+
+told-requires-3 : tie.Need-told-requires-3
+told-requires-3 c κs = search needs
 
 returns-3 : tie.Need-returns-3
 returns-3 c =
-    let p = c .before .before in
-    let a = start-of (passed-at p) .args in
-    refused-23 (a .rows) (a .cols) (a .codes .now) (a .accumulation .now) (a .outlets .now) (a .place) (a .start)
-    (a .places .now) (passes (passed-at p)) (measured p) (c .before .if2 .left) (c .if3 .taken)
+    let p = c .before .before .before in
+    let e = p .before .before in
+    rw (c .told3 .ensures) (refused-23 (call-of e) (passes e) (p .path-length .ensures) (c .before .before .if2 .left) (c .before .if3 .taken))
+
+told-requires-4 : tie.Need-told-requires-4
+told-requires-4 c κs = search needs
 
 returns-4 : tie.Need-returns-4
 returns-4 c =
-    let p = c .before .before in
-    let a = start-of (passed-at p) .args in
-    accepted (a .rows) (a .cols) (a .codes .now) (a .accumulation .now) (a .outlets .now) (a .place) (a .start)
-    (a .places .now) (passes (passed-at p)) (measured p) (c .before .if2 .left) (c .if3 .left)
+    let p = c .before .before .before in
+    let e = p .before .before in
+    rw (c .told4 .ensures) (accepted (call-of e) (passes e) (p .path-length .ensures) (c .before .before .if2 .left) (c .before .if3 .left))
 
 pub judge-spec : {M : Type 1} → statement M
 judge-spec =
     tie.close
     (tie.spec
     chosen-number-requires
+    told-requires
     returns
-    mul-index-of
-    shared-slice-read-index-of
-    index-of-requires
-    index-of-requires-2
+    mul-outlet
+    shared-slice-read-outlet
     path-length-requires
+    told-requires-2
     returns-2
+    told-requires-3
     returns-3
+    told-requires-4
     returns-4)
