@@ -31,6 +31,7 @@ pub record Quiet (n : ℕ) (accumulation outlets : List ℕ) (value mark : ℕ) 
 unfoldable pub pathLength : Grid → List ℕ → ℕ → ℕ → ℕ
 pathLength g outlets o start = cond (inSubwatershed g outlets o start) (length (pathFrom g outlets start)) 0
 
+-- an answer of these two
 abbrev pub toldOf : ℕ → ℕ → Drawn
 toldOf number count = record { number = number; count = count }
 

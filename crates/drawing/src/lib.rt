@@ -50,7 +50,8 @@ fn lower_above(value: u32, least: u32, other: u32) -> u32
 // The least accumulation of an outlet above a value.
 fn least_above(accumulation: &[u32], outlets: &[u32], value: u32) -> u32
     requires { ⌜ ((j : ℕ) → j < length (now outlets) → getD (now outlets) j 0 < length (now accumulation)) ⌝ }
-    ensures { λ r. ⌜ Quiet (length (now (outlets .entry))) (now (accumulation .entry)) (now (outlets .entry)) (value + 1) r ⌝ }
+    ensures { λ r. ⌜ Quiet (length (now (outlets .entry))) (now (accumulation .entry)) (now (outlets .entry)) (value + 1)
+        r ⌝ }
 {
     let mut least: u32 = 4294967295;
     let mut j: usize = 0;
@@ -176,6 +177,7 @@ fn write_cells(
     }
 }
 
+// What is told.
 fn told(number: u32, count: usize) -> Drawn
     ensures { λ r. ⌜ r ≡ toldOf number count ⌝ }
 {

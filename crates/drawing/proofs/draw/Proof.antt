@@ -10,7 +10,8 @@ use Rattle.drawing.proofs.draw.Tie as tie
 
 abbrev call : tie.Start → Call
 call s = let a = s .args in
-    callOf (a .rows) (a .cols) (a .codes .now) (a .accumulation .now) (a .outlets .now) (a .place) (a .start) (a .places .now)
+    callOf (a .rows) (a .cols) (a .codes .now) (a .accumulation .now) (a .outlets .now) (a .place) (a .start)
+    (a .places .now)
 
 taken : (c : tie.After-places2) → let d = c .before .before .before in
     take (d .draw-into .result .count) (d .draw-into .last .1 .1 .1 .1 .1 .1 .1 .0)

@@ -13,7 +13,8 @@ use Rattle.drawing.proofs.draw_into.Tie as tie
 
 abbrev call : tie.Start → Call
 call s = let a = s .args in
-    callOf (a .rows) (a .cols) (a .codes .now) (a .accumulation .now) (a .outlets .now) (a .place) (a .start) (a .places .now)
+    callOf (a .rows) (a .cols) (a .codes .now) (a .accumulation .now) (a .outlets .now) (a .place) (a .start)
+    (a .places .now)
 
 -- the call, and that it is accepted, seen from where there is something to write
 abbrev call-of : tie.Else1 → Call

@@ -14,7 +14,8 @@ chosen-number-requires c κs = search needs
 
 abbrev call : tie.Start → Call
 call s = let a = s .args in
-    callOf (a .rows) (a .cols) (a .codes .now) (a .accumulation .now) (a .outlets .now) (a .place) (a .start) (a .places .now)
+    callOf (a .rows) (a .cols) (a .codes .now) (a .accumulation .now) (a .outlets .now) (a .place) (a .start)
+    (a .places .now)
 
 -- the call, seen from where 10 to 18 are passed
 abbrev call-of : tie.Else1 → Call
@@ -35,7 +36,7 @@ mul-outlet : tie.Need-mul-outlet
 mul-outlet c = omega (arith, chosen (call-of c) (passes c))
 
 shared-slice-read-outlet : tie.Need-shared-slice-read-outlet
-shared-slice-read-outlet c = chosen (call-of (c .before)) (passes (c .before)) .0
+shared-slice-read-outlet c = omega (arith, chosen (call-of (c .before)) (passes (c .before)) .0)
 
 path-length-requires : tie.Need-path-length-requires
 path-length-requires c κs = surveyed (call-of (c .before)) (passes (c .before))
@@ -56,7 +57,8 @@ returns-3 : tie.Need-returns-3
 returns-3 c =
     let p = c .before .before .before in
     let e = p .before .before in
-    rw (c .told3 .ensures) (refused-23 (call-of e) (passes e) (p .path-length .ensures) (c .before .before .if2 .left) (c .before .if3 .taken))
+    rw (c .told3 .ensures) (refused-23 (call-of e) (passes e) (p .path-length .ensures) (c .before .before .if2 .left)
+    (c .before .if3 .taken))
 
 told-requires-4 : tie.Need-told-requires-4
 told-requires-4 c κs = search needs
@@ -65,7 +67,8 @@ returns-4 : tie.Need-returns-4
 returns-4 c =
     let p = c .before .before .before in
     let e = p .before .before in
-    rw (c .told4 .ensures) (accepted (call-of e) (passes e) (p .path-length .ensures) (c .before .before .if2 .left) (c .before .if3 .left))
+    rw (c .told4 .ensures) (accepted (call-of e) (passes e) (p .path-length .ensures) (c .before .before .if2 .left)
+    (c .before .if3 .left))
 
 pub judge-spec : {M : Type 1} → statement M
 judge-spec =

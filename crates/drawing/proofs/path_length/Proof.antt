@@ -21,8 +21,9 @@ follow-requires : tie.Need-follow-requires
 follow-requires c κs =
     let t = c .before .before in
     let s = t .before .before .before .before .before in
+    let land = gridOf (s .args .rows) (s .args .cols) (s .args .codes .now) in
     let solid = placed-solid (s .pre) (s .args .start) (sym (t .before .is-placed .ensures) ∙ t .if1 .taken) in
-    (s .pre, ap (ground (gridOf (s .args .rows) (s .args .cols) (s .args .codes .now))) (c .before .index-of .ensures .0) ∙ solid)
+    (s .pre, ap (ground land) (c .before .index-of .ensures .0) ∙ solid)
 
 returns : tie.Need-returns
 returns c =

@@ -25,7 +25,7 @@ loop-holds : tie.Need-loop-holds Inv-loop μ-loop
 loop-holds c = writing-none _ (c .before .before .before .pre) (c .walk-from .ensures)
 
 sub-at : tie.Need-sub-at Inv-loop μ-loop
-sub-at c = c .before .loop .inv .at-most
+sub-at c = omega (arith, c .loop-test .taken, c .before .loop .inv .at-most)
 
 cell-number-requires : tie.Need-cell-number-requires Inv-loop μ-loop
 cell-number-requires c κs = inside _ (start-of (c .before) .pre) (c .before .loop .inv)
