@@ -149,7 +149,7 @@ pub fn agreed_number(
 }
 
 // 16: is the outlet the number of a cell with ground? The code is looked up only within the grid.
-fn is_placed(rows: usize, cols: usize, codes: &[u8], outlet: u32) -> bool
+pub fn is_placed(rows: usize, cols: usize, codes: &[u8], outlet: u32) -> bool
     requires { ⌜ (rows ≤ 4096) × (cols ≤ 4096) × (rows * cols ≤ length (now codes)) ⌝ }
     ensures { λ r. ⌜ r ≡ isPlaced (gridOf rows cols (now (codes .entry))) outlet ⌝ }
 {

@@ -174,11 +174,11 @@ module _ {rows cols row col down right : ℕ} where
 
 -- its state after a step, by where its cell flows
 module _ (g : Grid) (s : At Length) where
-  state-ends : next g (s .cell) ≡ none → steppedOn g s ≡ s
+  pub state-ends : next g (s .cell) ≡ none → steppedOn g s ≡ s
   unfolding steppedOn stride
   state-ends e = rw (steppedOn, stride, e)
 
-  state-goes : (y : ℕ) (d : Dir) → next g (s .cell) ≡ some (record { cell = y; step = d })
+  pub state-goes : (y : ℕ) (d : Dir) → next g (s .cell) ≡ some (record { cell = y; step = d })
       → steppedOn g s ≡ record { cell = y; len = plusStep (s .len) (stepOf d) }
   unfolding steppedOn stride
   state-goes y d e = rw (steppedOn, stride, e)

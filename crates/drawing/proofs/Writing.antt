@@ -1,0 +1,145 @@
+-- The first cells of a walk, and the places while they are written.
+-- Assumes nothing.
+use mathlib.Core.Path.{_≡_, refl, sym, ap, _∙_}
+use mathlib.Core.Bool.{Bool}
+use mathlib.Core.List.{List, [], _∷_, _++_, map-append}
+use Prim.Native.Nat.{ℕ, zero, suc, _+_, _-_, _*_, _≤_, _<_, _^_}
+use native.Mathlib.Nat.{mul-le-mul}
+use native.Mathlib.Omega.{arith}
+use lib.ListN.{length, getD, set, drop, length-append, length-drop}
+use lib.Arith.{digits-lt}
+use lib.Seq.{ext-getD, drop-cons, set-at, append-snoc, take-all}
+use Rattle.ground.specs.declared.Walk.{Walk}
+use Rattle.ground.specs.Lists.{upTo}
+use Rattle.ground.specs.Grid.{Grid, gridOf, next}
+use Rattle.ground.specs.Moves.{OnGrid, WalkedOn}
+use Rattle.ground.proofs.Cells.{in-rows}
+use Rattle.ground.proofs.Ground.{grid-length, grid-at}
+use Rattle.answers.specs.Entries.{overlaid}
+use Rattle.drawing.specs.FlowPath.{FlowPath}
+use Rattle.drawing.specs.Cells.{cellOn, cellAfter, firstCells, Drawable}
+use Rattle.drawing.proofs.Stepping.{steps, on-cell, at-most-one}
+
+module _ (g : Grid) (start : ℕ) where
+  pub cells-length : (n : ℕ) → length (firstCells g start n) ≡ n
+  unfolding firstCells
+  cells-length n = grid-length (cellAfter g start) n
+
+  cells-more : (n : ℕ) → firstCells g start (suc n) ≡ firstCells g start n ++ (cellAfter g start n ∷ [])
+  unfolding firstCells
+  cells-more n = map-append (cellAfter g start) (upTo n) (n ∷ [])
+
+  -- A FLOW PATH is the first cells of its walk
+  module _ (outlet : ℕ → Bool) {o : ℕ} {cells : List ℕ} (p : FlowPath (next g) outlet o start cells) where
+    path-at : (k : ℕ) → k < length cells → getD cells k 0 ≡ cellAfter g start k
+    unfolding cellAfter cellOn
+    path-at zero h = p .begins
+    path-at (suc k) h =
+        let f = p .flows k h in
+        sym (ap (cellOn g) (sym (path-at k (omega arith))) ∙ rw (f .1, cellOn))
+
+    pub path-cells : cells ≡ firstCells g start (length cells)
+    unfolding firstCells
+    path-cells = ext-getD 0 cells (firstCells g start (length cells)) (sym (cells-length (length cells)))
+        (λ k h. path-at k h ∙ sym (grid-at (cellAfter g start) (length cells) k h))
+
+  -- the first n places are written, the others are as they were
+  module _ (old : List ℕ) where
+    abbrev pub written : ℕ → List ℕ
+    written n = firstCells g start n ++ drop n old
+
+    pub written-length : (n : ℕ) → n ≤ length old → length (written n) ≡ length old
+    written-length n h =
+        omega (arith, length-append (firstCells g start n) (drop n old), cells-length n, length-drop n old)
+
+    written-none : old ≡ written 0
+    unfolding firstCells
+    written-none = refl
+
+    written-more : (n : ℕ) → n < length old → set (written n) n (cellAfter g start n) ≡ written (suc n)
+    written-more n h =
+        let d : drop n old ≡ getD old n 0 ∷ drop (suc n) old = drop-cons old n 0 h in
+        rw (d, set-at (firstCells g start n) (getD old n 0) (drop (suc n) old) (cellAfter g start n) n (cells-length n))
+        (sym (append-snoc (firstCells g start n) (cellAfter g start n) (drop (suc n) old))
+        ∙ ap (λ (l : List ℕ). l ++ drop (suc n) old) (sym (cells-more n)))
+
+    pub written-all : (n : ℕ) → n ≤ length old → written n ≡ overlaid (firstCells g start n) old
+    unfolding overlaid
+    written-all n h = sym (
+        ap (λ (l : List ℕ). l ++ drop (length (firstCells g start n)) old)
+        (take-all (length old) (firstCells g start n) (omega (arith, cells-length n)))
+        ∙ ap (λ (m : ℕ). firstCells g start n ++ drop m old) (cells-length n)
+        )
+
+-- while `left` cells are still to be written
+pub record Writing (rows cols : ℕ) (codes : List ℕ) (start count : ℕ) (old new : List ℕ) (w : Walk) (left : ℕ)
+    : Type 0 where
+  pub at-most : left ≤ count
+  pub is-cell : w .row * cols + w .col ≡ cellAfter (gridOf rows cols codes) start (count - left)
+  pub row-in : w .row < rows
+  pub col-in : w .col < cols
+  pub few : steps w ≤ count - left
+  pub is-written : new ≡ written (gridOf rows cols codes) start old (count - left)
+
+module _ {rows cols : ℕ} {codes : List ℕ} {start count : ℕ} (old : List ℕ)
+    (d : Drawable rows cols codes start count (length old)) where
+  pub small : rows * cols ≤ 2 ^ 24
+  small = mul-le-mul (d .rows-small) (d .cols-small)
+
+  pub writing-none : {w : Walk}
+      → (w .row * cols + w .col ≡ start) × (w .col < cols) × (w .straight ≡ 0) × (w .diagonal ≡ 0)
+      → Writing rows cols codes start count old old w count
+  unfolding cellAfter
+  writing-none {w} (is, c, z, y) =
+      let e : 0 ≡ count - count = omega arith in
+      record {
+        at-most = omega arith;
+        is-cell = is ∙ ap (cellAfter (gridOf rows cols codes) start) e;
+        row-in = in-rows (w .row) (w .col) rows cols (omega (arith, is, d .start-in));
+        col-in = c;
+        few = omega (arith, z, y);
+        is-written = written-none (gridOf rows cols codes) start old ∙ ap (written (gridOf rows cols codes) start old) e;
+      }
+
+  module _ {new : List ℕ} {w : Walk} {left : ℕ} (i : Writing rows cols codes start count old new w left) where
+    pub long : length new ≡ length old
+    long = ap length (i .is-written)
+        ∙ written-length (gridOf rows cols codes) start old (count - left) (omega (arith, d .has-room))
+
+    pub inside : w .row * cols + w .col < 2 ^ 24
+    inside = omega (arith, small, digits-lt (i .row-in) (i .col-in))
+
+    pub writing-on-grid : 0 < left → OnGrid rows cols codes w
+    writing-on-grid h = record {
+      rows-small = d .rows-small;
+      cols-small = d .cols-small;
+      has-codes = d .has-codes;
+      row-in = i .row-in;
+      col-in = i .col-in;
+      straight-small = omega (arith, small, i .few, i .at-most, h, d .few);
+      diagonal-small = omega (arith, small, i .few, i .at-most, h, d .few);
+    }
+
+    pub writing-more : 0 < left → {cell : ℕ} → cell ≡ w .row * cols + w .col → {r : Walk} → WalkedOn rows cols codes w r
+        → Writing rows cols codes start count old (set new (count - left) cell) r (left - 1)
+    unfolding cellAfter
+    writing-more h {cell} is {r} on =
+        let e : suc (count - left) ≡ count - (left - 1) = omega (arith, h, i .at-most) in
+        record {
+          at-most = omega (arith, i .at-most);
+          is-cell = on-cell on ∙ ap (cellOn (gridOf rows cols codes)) (i .is-cell)
+              ∙ ap (cellAfter (gridOf rows cols codes) start) e;
+          row-in = on .row-in;
+          col-in = on .col-in;
+          few = omega (arith, at-most-one on, i .few, h, i .at-most);
+          is-written = rw (is, i .is-cell, i .is-written)
+              (written-more (gridOf rows cols codes) start old (count - left)
+              (omega (arith, h, i .at-most, d .has-room))
+              ∙ ap (written (gridOf rows cols codes) start old) e);
+        }
+
+    pub writing-all : left ≤ 0 → new ≡ overlaid (firstCells (gridOf rows cols codes) start count) old
+    writing-all h =
+        let e : count - left ≡ count = omega (arith, h) in
+        i .is-written ∙ ap (written (gridOf rows cols codes) start old) e
+        ∙ written-all (gridOf rows cols codes) start old count (d .has-room)
