@@ -77,7 +77,7 @@ rows-are rows cols row (suc n) rest h e =
     record {
       fits = omega (arith, ih .fits, r .fits, length-drop (4 + cols) rest, suc-mul n (4 + cols));
       long = length-append here below ∙ omega (arith, size, ih .long, suc-mul n cols);
-      codes = all-append isCode here below (r .codes) (ih .codes);
+      codes = all-append isCode here below ∙ rw (r .codes, ih .codes);
       spelled =
           rw (
             take-at here below cols size,

@@ -1,6 +1,6 @@
 -- What is spelled is accepted and read back: record by record, whatever follows.
 -- Assumes nothing.
-use mathlib.Core.Path.{_≡_, refl, sym, _∙_}
+use mathlib.Core.Path.{_≡_, refl, sym, ap, _∙_}
 use mathlib.Core.Bool.{true}
 use mathlib.Core.List.{List, [], _∷_, _++_, append-assoc}
 use Prim.Native.Nat.{ℕ, zero, suc, _+_, _-_, _*_, _/_, _%_, _≤_, _<_}
@@ -19,7 +19,7 @@ use Rattle.spelling.specs.Reading.{numberAt, isRecord, isRow, rowCodes}
 use Rattle.spelling.specs.Reading.{codesFrom, outletCount, outletsFrom, outletChecks}
 use Rattle.spelling.specs.Reading.{tailChecks, rowsChecks, readNumber}
 use Rattle.spelling.specs.Reading.{fileRows, fileCols, fileTail, fileCodes, fileOutlets}
-use Rattle.spelling.proofs.Records.{append-all, is-side, of-bytes, is-record, no-end}
+use Rattle.spelling.proofs.Records.{all-append, is-side, of-bytes, is-record, no-end}
 
 -- ---- rows
 
@@ -56,7 +56,8 @@ rows-read rows cols row (suc n) codes more h a =
     let later = rowRecords cols (row + 1) n below ++ more in
     let m : suc n * cols ≡ cols + n * cols = omega (arith, suc-mul n cols) in
     let t : take (suc n * cols) codes ≡ here ++ take (n * cols) below = rw m (take-add cols (n * cols) codes) in
-    let b = append-all isCode here (take (n * cols) below) (rw t at a) in
+    let b = and-both (allPass isCode here) (allPass isCode (take (n * cols) below))
+    (sym (ap (allPass isCode) t ∙ all-append isCode here (take (n * cols) below)) ∙ a) in
     let size : length here ≡ cols = length-take-le cols codes (omega arith) in
     let e = append-assoc here (rowRecords cols (row + 1) n below) more in
     let ih = rows-read rows cols (row + 1) n below more (omega (arith, length-drop cols codes)) (b .1) in
