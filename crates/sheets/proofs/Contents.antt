@@ -74,7 +74,8 @@ module _ (rows cols : ℕ) (codes outlets : List ℕ) where
       → _≡_ {A = Written} (record { number = k; length = 0 }) (writeAnswer rows cols codes outlets file)
   unfolding writeAnswer writeNumber
   content-refused k e f file =
-      let n = handed-on (contentChecks rows cols codes outlets) (check23 (spelling rows cols codes outlets) file ∷ []) e f in
+      let last = check23 (spelling rows cols codes outlets) file in
+      let n = handed-on (contentChecks rows cols codes outlets) (last ∷ []) e f in
       rw (← n, ne-eqb k 0 f)
 
   module _ (e : content ≡ 0) where

@@ -34,45 +34,55 @@ module _ (file : List ℕ) (rows cols : ℕ) where
 
 -- ---- 1, 2, 3
 
-module _ (file : List ℕ) (grid list : ℕ) where
-  refused-with : (k : ℕ) → readNumber file grid list ≡ suc k → sheetRefused (suc k) ≡ readAnswer file grid list
-  unfolding readAnswer
-  refused-with k e = rw (e, ne-eqb (suc k) 0 (λ z. omega arith))
+refused-with : (file : List ℕ) (grid list k : ℕ) → readNumber file grid list ≡ suc k
+    → sheetRefused (suc k) ≡ readAnswer file grid list
+unfolding readAnswer
+refused-with file grid list k e = rw (e, ne-eqb (suc k) 0 (λ z. omega arith))
 
-  pub no-header : isHeader file ≡ false → sheetRefused 1 ≡ readAnswer file grid list
+pub no-header : (file : List ℕ) (grid list : ℕ) → isHeader file ≡ false → sheetRefused 1 ≡ readAnswer file grid list
+unfolding readNumber firstFailed
+no-header file grid list e = refused-with file grid list 0 (rw e)
+
+-- the header is whole, and R and C are read
+pub record Begun (file : List ℕ) (rows cols : ℕ) : Type 0 where
+  pub header : isHeader file ≡ true
+  pub rows-read : rows ≡ fileRows file
+  pub cols-read : cols ≡ fileCols file
+
+module _ {file : List ℕ} {rows cols : ℕ} (b : Begun file rows cols) (grid list : ℕ) where
+  abbrev sides : Bool
+  sides = isSheetSide rows && isSheetSide cols
+
+  pub no-sides : sides ≡ false → sheetRefused 2 ≡ readAnswer file grid list
   unfolding readNumber firstFailed
-  no-header e = refused-with 0 (rw e)
+  no-sides e = refused-with file grid list 1 (rw (b .header, ← b .rows-read, ← b .cols-read, e))
 
-  module _ (h : isHeader file ≡ true) (rows cols : ℕ) (r : rows ≡ fileRows file) (c : cols ≡ fileCols file) where
-    abbrev sides : Bool
-    sides = isSheetSide rows && isSheetSide cols
-
-    pub no-sides : sides ≡ false → sheetRefused 2 ≡ readAnswer file grid list
+  module _ (s : sides ≡ true) where
+    pub no-grid : grid < rows * cols → sheetRefused 3 ≡ readAnswer file grid list
     unfolding readNumber firstFailed
-    no-sides e = refused-with 1 (rw (h, ← r, ← c, e))
+    no-grid l =
+        refused-with file grid list 2
+        (rw (b .header, ← b .rows-read, ← b .cols-read, s, lt-leb (rows * cols) grid l))
 
-    module _ (s : sides ≡ true) where
-      pub no-grid : grid < rows * cols → sheetRefused 3 ≡ readAnswer file grid list
+    module _ (g : rows * cols ≤ grid) where
+      pub no-list : list < 256 → sheetRefused 3 ≡ readAnswer file grid list
       unfolding readNumber firstFailed
-      no-grid l = refused-with 2 (rw (h, ← r, ← c, s, lt-leb (rows * cols) grid l))
+      no-list l =
+          refused-with file grid list 2
+          (rw (b .header, ← b .rows-read, ← b .cols-read, s, le-leb (rows * cols) grid g, lt-leb 256 list l))
 
-      module _ (g : rows * cols ≤ grid) where
-        pub no-list : list < 256 → sheetRefused 3 ≡ readAnswer file grid list
-        unfolding readNumber firstFailed
-        no-list l = refused-with 2 (rw (h, ← r, ← c, s, le-leb (rows * cols) grid g, lt-leb 256 list l))
-
-        pub by-records : 256 ≤ list → recordsAnswer file rows cols ≡ readAnswer file grid list
-        unfolding readNumber firstFailed readAnswer recordsAnswer
-        by-records l =
-            rw (
-              h,
-              ← r,
-              ← c,
-              s,
-              le-leb (rows * cols) grid g,
-              le-leb 256 list l,
-              outlets-long cols (outletCount 257 (afterRows rows cols file)) (afterRows rows cols file),
-            )
+      pub by-records : 256 ≤ list → recordsAnswer file rows cols ≡ readAnswer file grid list
+      unfolding readNumber firstFailed readAnswer recordsAnswer
+      by-records l =
+          rw (
+            b .header,
+            ← b .rows-read,
+            ← b .cols-read,
+            s,
+            le-leb (rows * cols) grid g,
+            le-leb 256 list l,
+            outlets-long cols (outletCount 257 (afterRows rows cols file)) (afterRows rows cols file),
+          )
 
 -- the sizes that 2 leaves: R, C, the cells, and the bytes of all rows
 pub record Sized (rows cols : ℕ) : Type 0 where

@@ -29,7 +29,8 @@ module _ (l codes : List ℕ) (cols row at from : ℕ) where
 
   pub rows-next : (n : ℕ) → 0 < n → from + cols ≤ length codes
       → sets l at (rowRecords cols row n (drop from codes))
-      ≡ sets (sets l at (rowRecord row here)) (at + (4 + cols)) (rowRecords cols (row + 1) (n - 1) (drop (from + cols) codes))
+      ≡ sets (sets l at (rowRecord row here)) (at + (4 + cols))
+      (rowRecords cols (row + 1) (n - 1) (drop (from + cols) codes))
   unfolding rowRecords
   rows-next zero h k = absurd (omega arith)
   rows-next (suc n) h k =

@@ -9,7 +9,8 @@ use lib.ListN.{length, drop, length-drop}
 use lib.Seq.{sets}
 use borrow.Author.Tests.{ne-eqb}
 use Rattle.spelling.specs.declared.Sheet.{Sheet}
-use Rattle.spelling.specs.Reading.{fileRows, fileCols, fileTail, fileCodes, fileOutlets, outletCount, codesFrom, outletsFrom}
+use Rattle.spelling.specs.Reading.{fileRows, fileCols, fileTail, fileCodes, fileOutlets}
+use Rattle.spelling.specs.Reading.{outletCount, codesFrom, outletsFrom}
 use Rattle.spelling.specs.Reading.{readNumber, readAnswer, readLeavesCodes, readLeavesOutlets}
 use Rattle.spelling.proofs.Accepted.{Accepted, accepted, outlets-long}
 use Rattle.sheets.proofs.Stores.{sets-overlaid}
@@ -41,13 +42,15 @@ module _ (file grid list : List ℕ) (s : Sheet) (e : s ≡ readAnswer file (len
   number-is = ap (λ (x : Sheet). x .number) e ∙ number-told file (length grid) (length list)
 
   -- REFUSED: nothing changes
-  pub nothing-stored : (s .number ≡ 0 → ⊥) → (grid ≡ readLeavesCodes file grid list) × (list ≡ readLeavesOutlets file grid list)
+  pub nothing-stored : (s .number ≡ 0 → ⊥)
+      → (grid ≡ readLeavesCodes file grid list) × (list ≡ readLeavesOutlets file grid list)
   unfolding readLeavesCodes readLeavesOutlets
   nothing-stored f =
       let n = ne-eqb (readNumber file (length grid) (length list)) 0 (λ z. f (number-is ∙ z)) in (rw n, rw n)
 
   -- ACCEPTED: by the numbers handed back
-  module _ (z : s .number ≡ 0) (rows cols count : ℕ) (r : rows ≡ s .rows) (c : cols ≡ s .cols) (o : count ≡ s .outlets) where
+  module _ (z : s .number ≡ 0) (rows cols count : ℕ)
+      (r : rows ≡ s .rows) (c : cols ≡ s .cols) (o : count ≡ s .outlets) where
     passes : readNumber file (length grid) (length list) ≡ 0
     passes = sym number-is ∙ z
 

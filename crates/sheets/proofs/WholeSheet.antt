@@ -40,7 +40,8 @@ module _ (rows cols : ℕ) (codes outlets file : List ℕ) where
         fits = omega (arith, room rows cols codes outlets file e, spelling-length rows cols codes outlets (g .has-codes));
         cells = λ k h.
             let few : rows * cols ≤ 64 * 64 = mul-le-mul (g .rows-small) (g .cols-small) in
-            let o = ltb-true (getD outlets k 0) (rows * cols) (all-at (λ x. ltb x (rows * cols)) outlets (w .inside) k h) in
+            let i = all-at (λ x. ltb x (rows * cols)) outlets (w .inside) k h in
+            let o = ltb-true (getD outlets k 0) (rows * cols) i in
             omega arith;
       }
 
@@ -53,7 +54,8 @@ module _ (rows cols : ℕ) (codes outlets file : List ℕ) where
       → l₄ ≡ sets file 0 (spelling rows cols codes outlets)
   unfolding spelling
   sheet-put {l₁} {l₂} tail end h p q t r n s =
-      let rest = then l₂ tail end (outletRecords cols outlets) endRecord r (omega (arith, outlets-length cols outlets)) s in
+      let rest = then l₂ tail end (outletRecords cols outlets) endRecord r
+      (omega (arith, outlets-length cols outlets)) s in
       let all = then l₁ 6 tail (rowRecords cols 0 rows codes) (outletRecords cols outlets ++ endRecord) q
       (omega (arith, rows-length cols 0 rows codes h)) rest in
       then file 0 6 (headerRecord rows cols) (rowRecords cols 0 rows codes ++ (outletRecords cols outlets ++ endRecord)) p

@@ -33,7 +33,8 @@ module _ (file : List ℕ) where
   -- a row
   abbrev pub rowSays : ℕ → ℕ → ℕ → Step → Type 0
   rowSays cols row at (step.Next next) = Passes file (rowChecks cols row (drop at file)) (4 + cols) at next
-  rowSays cols row at (step.Refused k) = (later : List Check) → Refuses (firstFailed (rowChecks cols row (drop at file) ++ later)) k
+  rowSays cols row at (step.Refused k) =
+      (later : List Check) → Refuses (firstFailed (rowChecks cols row (drop at file) ++ later)) k
 
   module _ (rows cols : ℕ) where
     -- all rows: the number is that of what follows them

@@ -33,7 +33,8 @@ enum Step {
     Refused { number: u32 },
 }
 
-// What stands after the rows: an outlet, with the place after it, the end of the file, or the number of the check that fails.
+// What stands after the rows: an outlet, with the place after it, the end of the file, or the number of the check that
+// fails.
 enum Found {
     Outlet { next: Cursor },
     End,

@@ -41,7 +41,8 @@ row-is cols row rest e k =
       spelled = λ h.
           w .begins (omega arith)
           ∙ ap (marked rowMark) (rw n at (number-bytes 2 rest (omega (arith, w .fits)) (omega arith))
-          ∙ ap (λ (l : List ℕ). twoBytes row ++ l) (sym (take-append-drop cols (drop 4 rest)) ∙ rw (drop-drop cols 4 rest)));
+          ∙ ap (λ (l : List ℕ). twoBytes row ++ l)
+          (sym (take-append-drop cols (drop 4 rest)) ∙ rw (drop-drop cols 4 rest)));
     }
 
 -- ---- rows

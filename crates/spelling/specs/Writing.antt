@@ -24,7 +24,8 @@ module _ (rows cols : ℕ) (codes outlets : List ℕ) where
 module _ (rows cols : ℕ) (codes outlets file : List ℕ) where
   -- WRITE: 2, 3, 5, 8, 7, 23
   unfoldable pub writeNumber : ℕ
-  writeNumber = firstFailed (contentChecks rows cols codes outlets ++ (check23 (spelling rows cols codes outlets) file ∷ []))
+  writeNumber =
+      firstFailed (contentChecks rows cols codes outlets ++ (check23 (spelling rows cols codes outlets) file ∷ []))
 
   -- the file's length, 0 on refusal
   unfoldable pub writeAnswer : Written

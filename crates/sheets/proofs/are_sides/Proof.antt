@@ -17,7 +17,8 @@ is-side-requires-2 c κs = search needs
 
 returns-2 : tie.Need-returns-2
 returns-2 c =
-    rw (sym (c .before .before .is-side .ensures) ∙ not-false (c .before .before .is-side .result) (c .before .if1 .left)) (c .is-side2 .ensures)
+    let r = c .before .before .is-side in
+    rw (sym (r .ensures) ∙ not-false (r .result) (c .before .if1 .left)) (c .is-side2 .ensures)
 
 pub are-sides-spec : {M : Type 1} → statement M
 are-sides-spec = tie.close (tie.spec is-side-requires returns is-side-requires-2 returns-2)

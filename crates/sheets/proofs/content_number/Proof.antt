@@ -10,12 +10,14 @@ use Rattle.ground.specs.Lists.{allBelow}
 use Rattle.answers.specs.Checks.{isCode}
 use Rattle.spelling.specs.Reading.{isSheetSide}
 use Rattle.sheets.proofs.Judged.{sized}
-use Rattle.sheets.proofs.Contents.{other-sides, few-codes, other-code, many-outlets, outlet-outside, content-passes}
+use Rattle.sheets.proofs.Contents.{other-sides, few-codes, other-code, many-outlets, outlet-outside}
+use Rattle.sheets.proofs.Contents.{content-passes}
 use borrow.Author.Needs.{needs}
 use Rattle.sheets.proofs.content_number.Statement.{statement}
 use Rattle.sheets.proofs.content_number.Tie as tie
 
-sides : (c : tie.Else1) → let a = c .before .before .before .before .args in (isSheetSide (a .rows) && isSheetSide (a .cols)) ≡ true
+sides : (c : tie.Else1) → let a = c .before .before .before .before .args in
+    (isSheetSide (a .rows) && isSheetSide (a .cols)) ≡ true
 sides c = sym (c .before .are-sides .ensures) ∙ not-false (c .before .are-sides .result) (c .if1 .left)
 
 codes : (c : tie.Else3) → let a = c .before .before .before .before .before .before .before .args in
@@ -28,46 +30,54 @@ are-sides-requires c κs = search needs
 returns : tie.Need-returns
 returns c =
     let a = c .before .before .before .before .args in
-    other-sides (a .rows) (a .cols) (a .codes .now) (a .outlets .now) (sym (c .before .are-sides .ensures) ∙ not-true (c .before .are-sides .result) (c .if1 .taken))
+    other-sides (a .rows) (a .cols) (a .codes .now) (a .outlets .now)
+    (sym (c .before .are-sides .ensures) ∙ not-true (c .before .are-sides .result) (c .if1 .taken))
 
 mul-cells : tie.Need-mul-cells
 mul-cells c =
-    let s = sized (c .before .before .before .before .args .rows) (c .before .before .before .before .args .cols) (sides c) in omega (arith, s .few-cells)
+    let a = c .before .before .before .before .args in
+    let s = sized (a .rows) (a .cols) (sides c) in
+    omega (arith, s .few-cells)
 
 returns-2 : tie.Need-returns-2
 returns-2 c =
-    let a = c .before .before .before .before .before .args in few-codes (a .rows) (a .cols) (a .codes .now) (a .outlets .now) (sides (c .before)) (c .if2 .taken)
+    let a = c .before .before .before .before .before .args in
+    few-codes (a .rows) (a .cols) (a .codes .now) (a .outlets .now) (sides (c .before)) (c .if2 .taken)
 
 all-codes-requires : tie.Need-all-codes-requires
 all-codes-requires c κs = search needs
 
 returns-3 : tie.Need-returns-3
 returns-3 c =
-    let a = c .before .before .before .before .before .before .before .args in
-    other-code (a .rows) (a .cols) (a .codes .now) (a .outlets .now) (sides (c .before .before .before)) (omega (arith, c .before .before .if2 .left))
+    let e = c .before .before in
+    let a = e .before .before .before .before .before .args in
+    other-code (a .rows) (a .cols) (a .codes .now) (a .outlets .now) (sides (e .before)) (omega (arith, e .if2 .left))
     (sym (c .before .all-codes .ensures) ∙ not-true (c .before .all-codes .result) (c .if3 .taken))
 
 returns-4 : tie.Need-returns-4
 returns-4 c =
-    let a = c .before .before .before .before .before .before .before .before .args in
-    many-outlets (a .rows) (a .cols) (a .codes .now) (a .outlets .now) (sides (c .before .before .before .before)) (omega (arith, c .before .before .before .if2 .left)) (codes (c .before))
-    (omega (arith, c .if4 .taken))
+    let e = c .before .before .before in
+    let a = e .before .before .before .before .before .args in
+    many-outlets (a .rows) (a .cols) (a .codes .now) (a .outlets .now) (sides (e .before)) (omega (arith, e .if2 .left))
+    (codes (c .before)) (omega (arith, c .if4 .taken))
 
 are-cells-requires : tie.Need-are-cells-requires
 are-cells-requires c κs = search needs
 
 returns-5 : tie.Need-returns-5
 returns-5 c =
-    let a = c .before .before .before .before .before .before .before .before .before .before .args in
-    outlet-outside (a .rows) (a .cols) (a .codes .now) (a .outlets .now) (sides (c .before .before .before .before .before .before)) (omega (arith, c .before .before .before .before .before .if2 .left)) (codes (c .before .before .before))
-    (omega (arith, c .before .before .if4 .left))
+    let e = c .before .before .before .before .before in
+    let a = e .before .before .before .before .before .args in
+    outlet-outside (a .rows) (a .cols) (a .codes .now) (a .outlets .now) (sides (e .before)) (omega (arith, e .if2 .left))
+    (codes (c .before .before .before)) (omega (arith, c .before .before .if4 .left))
     (sym (c .before .are-cells .ensures) ∙ not-true (c .before .are-cells .result) (c .if5 .taken))
 
 returns-6 : tie.Need-returns-6
 returns-6 c =
-    let a = c .before .before .before .before .before .before .before .before .before .before .args in
-    content-passes (a .rows) (a .cols) (a .codes .now) (a .outlets .now) (sides (c .before .before .before .before .before .before)) (omega (arith, c .before .before .before .before .before .if2 .left)) (codes (c .before .before .before))
-    (omega (arith, c .before .before .if4 .left))
+    let e = c .before .before .before .before .before in
+    let a = e .before .before .before .before .before .args in
+    content-passes (a .rows) (a .cols) (a .codes .now) (a .outlets .now) (sides (e .before)) (omega (arith, e .if2 .left))
+    (codes (c .before .before .before)) (omega (arith, c .before .before .if4 .left))
     (sym (c .before .are-cells .ensures) ∙ not-false (c .before .are-cells .result) (c .if5 .left))
 
 pub content-number-spec : {M : Type 1} → statement M

@@ -17,7 +17,9 @@ passes c = sym (c .before .content-number .ensures) ∙ c .if1 .left
 
 small : (c : tie.Else1) → let a = c .before .before .before .before .args in
     (a .cols ≤ 64) × (a .rows * (4 + a .cols) ≤ 4352) × (length (a .outlets .now) ≤ 256)
-small c = let a = c .before .before .before .before .args in size-small (a .rows) (a .cols) (a .codes .now) (a .outlets .now) (passes c)
+small c =
+    let a = c .before .before .before .before .args in
+    size-small (a .rows) (a .cols) (a .codes .now) (a .outlets .now) (passes c)
 
 content-number-requires : tie.Need-content-number-requires
 content-number-requires c κs = search needs
@@ -25,7 +27,8 @@ content-number-requires c κs = search needs
 returns : tie.Need-returns
 returns c =
     let a = c .before .before .before .before .args in
-    λ file q. content-refused (a .rows) (a .cols) (a .codes .now) (a .outlets .now) _ (c .before .content-number .ensures) (c .if1 .taken) file
+    λ file q. content-refused (a .rows) (a .cols) (a .codes .now) (a .outlets .now) _ (c .before .content-number .ensures)
+    (c .if1 .taken) file
 
 add-length : tie.Need-add-length
 add-length c = let s = small c in omega (arith, s .0)
@@ -44,14 +47,17 @@ add-length-3 c = let s = small c in omega (arith, s .1, s .2)
 
 returns-2 : tie.Need-returns-2
 returns-2 c =
-    let a = c .before .before .before .before .before .args in no-room (a .rows) (a .cols) (a .codes .now) (a .outlets .now) (passes (c .before)) (a .room) (c .if2 .taken)
+    let a = c .before .before .before .before .before .args in
+    no-room (a .rows) (a .cols) (a .codes .now) (a .outlets .now) (passes (c .before)) (a .room) (c .if2 .taken)
 
 cast-t14 : tie.Need-cast-t14
 cast-t14 c = let s = small (c .before) in omega (arith, s .1, s .2)
 
 returns-3 : tie.Need-returns-3
 returns-3 c =
-    let a = c .before .before .before .before .before .args in writes (a .rows) (a .cols) (a .codes .now) (a .outlets .now) (passes (c .before)) (a .room) (omega (arith, c .if2 .left))
+    let a = c .before .before .before .before .before .args in
+    writes (a .rows) (a .cols) (a .codes .now) (a .outlets .now) (passes (c .before)) (a .room)
+    (omega (arith, c .if2 .left))
 
 pub judge-content-spec : {M : Type 1} → statement M
 judge-content-spec =

@@ -61,7 +61,8 @@ returns-3 : tie.Need-returns-3
 returns-3 c =
     let a = c .before .before .before .before .before .before .args in
     c .refused2 .ensures
-    ∙ records-refused (a .file .now) (a .rows) (a .cols) _ (rw (c .before .before .step2 .given .1) at (c .before .before .before .before .rows-from .ensures))
+    ∙ records-refused (a .file .now) (a .rows) (a .cols) _
+    (rw (c .before .before .step2 .given .1) at (c .before .before .before .before .rows-from .ensures))
 
 pub judge-records-spec : {M : Type 1} → statement M
 judge-records-spec =

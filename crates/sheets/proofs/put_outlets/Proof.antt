@@ -40,10 +40,12 @@ rem-put-pair c = search needs
 
 put-pair-requires : tie.Need-put-pair-requires Inv-loop μ-loop
 put-pair-requires c κs =
-    let a = c .before .before .before .before .before .before .before .args in
-    let l = c .before .before .before .before .loop in
+    let t = c .before .before .before in
+    let l = t .before .loop in
+    let s = t .before .before .before .before in
+    let a = s .args in
     let o = c .before .index-of in
-    let small = c .before .before .before .before .before .before .before .pre .2 (l .k) (c .before .before .before .loop-test .taken) in (
+    let small = s .pre .2 (l .k) (t .loop-test .taken) in (
       omega (arith, l .inv .1, l .inv .2),
       omega (arith, small, o .ensures .0, div-le-self (o .result) (a .cols)),
       omega (arith, small, o .ensures .0, mod-le (o .result) (a .cols)),
@@ -57,15 +59,16 @@ loop-less c = search needs
 
 loop-again : tie.Need-loop-again Inv-loop μ-loop
 loop-again c =
-    let a = c .before .before .before .before .before .before .before .before .before .before .args in
-    let l = c .before .before .before .before .before .before .before .loop in
+    let t = c .before .before .before .before .before .before in
+    let l = t .before .loop in
+    let a = t .before .before .before .before .args in
     let p = c .before .before .put-pair in (
       search needs,
       omega (arith, l .inv .1, p .ensures .0),
       p .kept .0 ∙ l .inv .2,
       rw (p .ensures .1, p .ensures .0)
           (l .inv .3
-          ∙ outlets-next (l .file) (a .outlets .now) (a .cols) (l .k) (l .here .at) (c .before .before .before .before .before .before .loop-test .taken) _
+          ∙ outlets-next (l .file) (a .outlets .now) (a .cols) (l .k) (l .here .at) (t .loop-test .taken) _
           (c .before .before .before .before .index-of .ensures .0)),
     )
 

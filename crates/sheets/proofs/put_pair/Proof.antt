@@ -22,12 +22,15 @@ same-length c = search needs
 
 returns : tie.Need-returns
 returns c =
-    let a = c .before .before .before .before .before .before .before .before .before .before .before .before .before .args in
-    let p = c .before .before .before .before .before .before .before .before .before .before .put in
-    let q = c .before .before .before .before .before .before .put-number in
+    let u = c .before .before .before .before .before .before in
+    let t = u .before .before .before .before in
+    let a = t .before .before .before .args in
+    let p = t .put in
+    let q = u .put-number in
     let r = c .before .before .put-number2 in
     let m = marked (mark (a .first) (a .second)) [] in
-    let half = then (a .file .now) (a .here .at) (p .result .at) m (twoBytes (a .a)) (p .ensures .1) (p .ensures .0) (q .ensures .1) in (
+    let half = then (a .file .now) (a .here .at) (p .result .at) m (twoBytes (a .a)) (p .ensures .1) (p .ensures .0)
+    (q .ensures .1) in (
       omega (arith, p .ensures .0, q .ensures .0, r .ensures .0),
       then (a .file .now) (a .here .at) (q .result .at) (m ++ twoBytes (a .a)) (twoBytes (a .b)) half
           (omega (arith, p .ensures .0, q .ensures .0)) (r .ensures .1),

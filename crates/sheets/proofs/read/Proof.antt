@@ -6,13 +6,15 @@ use borrow.Author.Needs.{needs}
 use Rattle.sheets.proofs.read.Statement.{statement}
 use Rattle.sheets.proofs.read.Tie as tie
 
-stores : (c : tie.After-index-of3) → let a = c .before .before .before .before .before .before .before .before .before .args in
-    Storable (a .file .now) (a .codes .now) (a .outlets .now) (c .before .before .index-of .result) (c .before .index-of2 .result)
+stores : (c : tie.After-index-of3) → let t = c .before .before in
+    let a = t .before .before .before .before .before .before .before .args in
+    Storable (a .file .now) (a .codes .now) (a .outlets .now) (t .index-of .result) (c .before .index-of2 .result)
     (c .index-of3 .result)
 stores c =
-    let a = c .before .before .before .before .before .before .before .before .before .args in
-    let j = c .before .before .before .before .before .judge in
-    storable (a .file .now) (a .codes .now) (a .outlets .now) (j .result) (j .ensures) (c .before .before .before .if1 .left) _ _ _
+    let e = c .before .before .before in
+    let a = e .before .before .before .before .before .before .args in
+    let j = e .before .before .judge in
+    storable (a .file .now) (a .codes .now) (a .outlets .now) (j .result) (j .ensures) (e .if1 .left) _ _ _
     (c .before .before .index-of .ensures .0) (c .before .index-of2 .ensures .0) (c .index-of3 .ensures .0)
 
 judge-requires : tie.Need-judge-requires
@@ -21,8 +23,10 @@ judge-requires c κs = search needs
 returns : tie.Need-returns
 returns c =
     let a = c .before .before .before .before .before .before .args in
-    let j = c .before .before .judge in
-    (j .ensures, nothing-stored (a .file .now) (a .codes .now) (a .outlets .now) (j .result) (j .ensures) (c .if1 .taken))
+    let j = c .before .before .judge in (
+      j .ensures,
+      nothing-stored (a .file .now) (a .codes .now) (a .outlets .now) (j .result) (j .ensures) (c .if1 .taken),
+    )
 
 index-of-requires : tie.Need-index-of-requires
 index-of-requires c κs = search needs
@@ -47,7 +51,8 @@ store-codes-requires c κs = let s = stores (c .before) in (s .rows-fit, s .has-
 
 store-outlets-requires : tie.Need-store-outlets-requires
 store-outlets-requires c κs =
-    let s = stores (c .before .before .before .before .before) in (s .outlets-fit, s .has-list, s .cols-small)
+    let s = stores (c .before .before .before .before .before) in
+    (s .outlets-fit, s .has-list, s .cols-small)
 
 same-length : tie.Need-same-length
 same-length c = search needs
@@ -57,9 +62,13 @@ same-length-2 c = search needs
 
 returns-2 : tie.Need-returns-2
 returns-2 c =
-    let s = stores (c .before .before .before .before .before .before .before .before) in (
-      c .before .before .before .before .before .before .before .before .before .before .before .before .before .judge .ensures,
-      (s .codes-left _ (c .before .before .before .before .before .before .store-codes .ensures), s .outlets-left _ (c .before .before .store-outlets .ensures)),
+    let n = c .before .before .before .before .before .before .before .before in
+    let s = stores n in (
+      n .before .before .before .before .before .judge .ensures,
+      (
+        s .codes-left _ (c .before .before .before .before .before .before .store-codes .ensures),
+        s .outlets-left _ (c .before .before .store-outlets .ensures),
+      ),
     )
 
 pub read-spec : {M : Type 1} → statement M

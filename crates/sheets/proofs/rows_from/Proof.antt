@@ -49,7 +49,9 @@ loop-again c =
       search needs,
       rw (add-one (l .row), suc-mul (l .row) (4 + a .cols)) (omega (arith, p .lands, l .inv .1)),
       omega (arith, p .lands, p .fits),
-      rw n (l .inv .3 ∙ rows-on (a .file .now) (a .rows) (a .cols) (l .row) (l .here .at) (a .rows - l .row) (omega arith) _ p),
+      rw n
+          (l .inv .3
+          ∙ rows-on (a .file .now) (a .rows) (a .cols) (l .row) (l .here .at) (a .rows - l .row) (omega arith) _ p),
     )
 
 enum-known-step-2 : tie.Need-enum-known-step-2 Inv-loop μ-loop
@@ -60,7 +62,8 @@ returns c =
     let a = c .before .before .before .before .before .before .before .args in
     let l = c .before .before .before .before .before .loop in
     let r = rw (c .before .step2 .given .1) at (c .before .before .before .row-at .ensures) in
-    rw (l .inv .3) (rows-stop (a .file .now) (a .rows) (a .cols) (l .row) (l .here .at) (a .rows - l .row) _ (omega arith) r)
+    rw (l .inv .3)
+    (rows-stop (a .file .now) (a .rows) (a .cols) (l .row) (l .here .at) (a .rows - l .row) _ (omega arith) r)
 
 returns-2 : tie.Need-returns-2 Inv-loop μ-loop
 returns-2 c =

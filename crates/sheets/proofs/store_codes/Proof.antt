@@ -17,7 +17,8 @@ use Rattle.sheets.proofs.store_codes.Tie as tie
 abbrev Inv-loop : tie.InvT-loop
 Inv-loop file rows cols codes₀ at₀ row₀ codes at row =
     (row ≤ rows) × (at ≡ 6 + row * (4 + cols)) × (length codes ≡ length codes₀)
-    × (sets codes₀ 0 (codesFrom cols rows (drop 6 file)) ≡ sets codes (row * cols) (codesFrom cols (rows - row) (drop at file)))
+    × (sets codes₀ 0 (codesFrom cols rows (drop 6 file))
+    ≡ sets codes (row * cols) (codesFrom cols (rows - row) (drop at file)))
 
 abbrev μ-loop : tie.MeasureT-loop
 μ-loop file rows cols codes₀ at₀ row₀ codes at row = rows - row
@@ -84,7 +85,9 @@ loop-again c =
       rw (add-one (l .row), suc-mul (l .row) (4 + a .cols)) (omega (arith, l .inv .1)),
       c .before .before .copy .kept .1 .0 ∙ l .inv .2,
       rw (c .before .before .copy .ensures, n, m)
-          (l .inv .3 ∙ codes-next (l .codes) (a .file .now) (a .cols) (l .row * a .cols) (l .at) (a .rows - l .row) (omega arith) (fits e)),
+          (l .inv .3
+          ∙ codes-next (l .codes) (a .file .now) (a .cols) (l .row * a .cols) (l .at) (a .rows - l .row) (omega arith)
+          (fits e)),
     )
 
 same-length : tie.Need-same-length Inv-loop μ-loop
@@ -94,7 +97,8 @@ returns : tie.Need-returns Inv-loop μ-loop
 returns c =
     let a = c .before .before .before .before .args in
     let l = c .before .loop in
-    codes-stored (l .codes) (a .file .now) (a .cols) (l .row * a .cols) (l .at) (a .rows - l .row) (omega arith) ∙ sym (l .inv .3)
+    codes-stored (l .codes) (a .file .now) (a .cols) (l .row * a .cols) (l .at) (a .rows - l .row) (omega arith)
+    ∙ sym (l .inv .3)
 
 pub store-codes-spec : {M : Type 1} → statement M
 store-codes-spec =

@@ -22,9 +22,11 @@ abbrev μ-loop : tie.MeasureT-loop
 μ-loop file cols count outlets₀ here₀ k₀ outlets here k = count - k
 
 -- the cell number is small: a row of two bytes, and no more than 64 columns
-small : (c : tie.After-number Inv-loop μ-loop) → c .number .result * c .before .before .before .before .before .args .cols ≤ 65535 * 64
+small : (c : tie.After-number Inv-loop μ-loop) → let a = c .before .before .before .before .before .args in
+    c .number .result * a .cols ≤ 65535 * 64
 small c =
-    let r : c .number .result ≤ 65535 = omega (arith, c .number .ensures .1) in mul-le-mul r (c .before .before .before .before .before .pre .2)
+    let r : c .number .result ≤ 65535 = omega (arith, c .number .ensures .1) in
+    mul-le-mul r (c .before .before .before .before .before .pre .2)
 
 loop-holds : tie.Need-loop-holds Inv-loop μ-loop
 loop-holds c = (search needs, omega arith, refl, rw (sub-zero (c .before .before .args .count)))
@@ -80,7 +82,8 @@ returns : tie.Need-returns Inv-loop μ-loop
 returns c =
     let a = c .before .before .before .before .args in
     let l = c .before .loop in
-    outlets-stored (l .outlets) (a .file .now) (a .cols) (l .k) (l .here .at) (a .count - l .k) (omega arith) ∙ sym (l .inv .3)
+    outlets-stored (l .outlets) (a .file .now) (a .cols) (l .k) (l .here .at) (a .count - l .k) (omega arith)
+    ∙ sym (l .inv .3)
 
 pub store-outlets-spec : {M : Type 1} → statement M
 store-outlets-spec =

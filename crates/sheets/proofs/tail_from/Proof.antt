@@ -44,8 +44,12 @@ loop-again c =
     let l = c .before .before .before .before .before .loop in
     let p = rw (c .before .found .given .1) at (c .before .before .before .record-at .ensures) in
     let n : 257 - (l .count + 1) ≡ 257 - l .count - 1 = omega arith in
-    let t = tail-on (a .file .now) (a .rows) (a .cols) (l .here .at) (257 - l .count) (omega arith) _ (p .0) (p .1) in
-    (omega (arith, p .1 .lands, p .1 .fits), search needs, rw n (l .inv .2 ∙ t .same), rw n (omega (arith, l .inv .3, t .more)))
+    let t = tail-on (a .file .now) (a .rows) (a .cols) (l .here .at) (257 - l .count) (omega arith) _ (p .0) (p .1) in (
+      omega (arith, p .1 .lands, p .1 .fits),
+      search needs,
+      rw n (l .inv .2 ∙ t .same),
+      rw n (omega (arith, l .inv .3, t .more)),
+    )
 
 enum-told : tie.Need-enum-told Inv-loop μ-loop
 enum-told c = search needs

@@ -20,17 +20,22 @@ put-sheet-requires : tie.Need-put-sheet-requires
 put-sheet-requires c κs =
     let a = c .before .before .before .before .before .before .before .args in
     let j = c .before .before .before .judge-content in
-    accepted-number (a .rows) (a .cols) (a .codes .now) (a .outlets .now) (a .file .now) (j .result) (j .ensures (a .file .now) refl) (c .before .if1 .left)
+    accepted-number (a .rows) (a .cols) (a .codes .now) (a .outlets .now) (a .file .now) (j .result)
+    (j .ensures (a .file .now) refl) (c .before .if1 .left)
 
 same-length : tie.Need-same-length
 same-length c = search needs
 
 returns-2 : tie.Need-returns-2
 returns-2 c =
-    let a = c .before .before .before .before .before .before .before .before .before .before .args in
-    let j = c .before .before .before .before .before .before .judge-content in
-    let e = j .ensures (a .file .now) refl in
-    (e, sheet-left (a .rows) (a .cols) (a .codes .now) (a .outlets .now) (a .file .now) (j .result) e (c .before .before .before .before .if1 .left) (c .before .before .put-sheet .ensures))
+    let t = c .before .before .before .before in
+    let a = t .before .before .before .before .before .before .args in
+    let j = t .before .before .judge-content in
+    let e = j .ensures (a .file .now) refl in (
+      e,
+      sheet-left (a .rows) (a .cols) (a .codes .now) (a .outlets .now) (a .file .now) (j .result) e (t .if1 .left)
+          (c .before .before .put-sheet .ensures),
+    )
 
 pub write-spec : {M : Type 1} → statement M
 write-spec =

@@ -33,7 +33,8 @@ add-result c = search needs
 returns : tie.Need-returns
 returns c =
     let a = c .before .before .before .before .before .before .args in
-    (omega (arith, c .before .before .wide .ensures, c .wide2 .ensures, number-is (a .file .now) (a .self .at) (a .skip)), omega arith)
+    let n = number-is (a .file .now) (a .self .at) (a .skip) in
+    (omega (arith, c .before .before .wide .ensures, c .wide2 .ensures, n), omega arith)
 
 pub number-spec : {M : Type 1} → statement M
 number-spec =
