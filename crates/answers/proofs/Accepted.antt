@@ -70,7 +70,7 @@ all-passed n (c ∷ cs) ds k e = go (c .passes) refl (all-passed n cs ds (k .1))
     go false p ih = absurd (k .0 (sym (rw p) ∙ e))
 
 -- an element of a list of which all pass
-all-at : (f : ℕ → Bool) (xs : List ℕ) → allPass f xs ≡ true → (i : ℕ) → i < length xs → f (getD xs i 0) ≡ true
+pub all-at : (f : ℕ → Bool) (xs : List ℕ) → allPass f xs ≡ true → (i : ℕ) → i < length xs → f (getD xs i 0) ≡ true
 all-at f [] h i l = absurd (omega arith)
 all-at f (x ∷ xs) h zero l = and-both (f x) (allPass f xs) h .0
 all-at f (x ∷ xs) h (suc i) l = all-at f xs (and-both (f x) (allPass f xs) h .1) i (omega arith)

@@ -41,7 +41,8 @@ row-is cols row rest e k =
       spelled = λ h.
           w .begins (omega arith)
           ∙ ap (marked rowMark) (rw n at (number-bytes 2 rest (omega (arith, w .fits)) (omega arith))
-          ∙ ap (λ (l : List ℕ). twoBytes row ++ l) (sym (take-append-drop cols (drop 4 rest)) ∙ rw (drop-drop cols 4 rest)));
+          ∙ ap (λ (l : List ℕ). twoBytes row ++ l)
+          (sym (take-append-drop cols (drop 4 rest)) ∙ rw (drop-drop cols 4 rest)));
     }
 
 -- ---- rows
@@ -77,7 +78,7 @@ rows-are rows cols row (suc n) rest h e =
     record {
       fits = omega (arith, ih .fits, r .fits, length-drop (4 + cols) rest, suc-mul n (4 + cols));
       long = length-append here below ∙ omega (arith, size, ih .long, suc-mul n cols);
-      codes = all-append isCode here below (r .codes) (ih .codes);
+      codes = all-append isCode here below ∙ rw (r .codes, ih .codes);
       spelled =
           rw (
             take-at here below cols size,

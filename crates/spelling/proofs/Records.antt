@@ -22,17 +22,13 @@ pub passes : (b : Bool) (later k : ℕ) → cond b later (suc k) ≡ 0 → (b �
 passes true later k e = (refl, e)
 passes false later k e = absurd (omega arith)
 
-pub all-append : (f : ℕ → Bool) (xs ys : List ℕ) → allPass f xs ≡ true → allPass f ys ≡ true → allPass f (xs ++ ys) ≡ true
-all-append f [] ys h k = k
-all-append f (x ∷ xs) ys h k = let p = and-both (f x) (allPass f xs) h in rw (p .0) (all-append f xs ys (p .1) k)
-
-pub append-all : (f : ℕ → Bool) (xs ys : List ℕ) → allPass f (xs ++ ys) ≡ true
-    → (allPass f xs ≡ true) × (allPass f ys ≡ true)
-append-all f [] ys h = (refl, h)
-append-all f (x ∷ xs) ys h =
-    let p = and-both (f x) (allPass f (xs ++ ys)) h in
-    let q = append-all f xs ys (p .1) in
-    (rw (p .0) (q .0), q .1)
+pub all-append : (f : ℕ → Bool) (xs ys : List ℕ) → allPass f (xs ++ ys) ≡ (allPass f xs && allPass f ys)
+all-append f [] ys = refl
+all-append f (x ∷ xs) ys = rw (all-append f xs ys) (assoc (f x) (allPass f xs) (allPass f ys))
+  where
+    assoc : (a b c : Bool) → (a && (b && c)) ≡ ((a && b) && c)
+    assoc true b c = refl
+    assoc false b c = refl
 
 pub side-is : (n : ℕ) → isSheetSide n ≡ true → (1 ≤ n) × (n ≤ 64)
 side-is n e = let q = and-both (leb 1 n) (leb n 64) e in (leb-true 1 n (q .0), leb-true n 64 (q .1))

@@ -16,7 +16,7 @@ use Rattle.spelling.specs.Content.{Content, lentContent, writtenFile, re
 use Rattle.spelling.proofs.Accepted.{Accepted, accepted}
 use Rattle.spelling.proofs.Spelled.{rows-same, cols-same, codes-same, spelling-accepted, outlets-same}
 use Rattle.spelling.proofs.Sizes.{spelling-first}
-use Rattle.spelling.proofs.Writable.{Writable, writable, write-accepted}
+use Rattle.spelling.proofs.Writable.{Spellable, content-spellable, room, write-accepted}
 
 -- the front of what is left
 front : (new old : List ℕ) (n : ℕ) → length new ≤ length old → length new ≡ n → take n (overlaid new old) ≡ new
@@ -27,7 +27,7 @@ front new old n h e = rw (overlaid-front new old h) (take-at new (drop (length n
 module _ (rows cols : ℕ) (codes outlets bytes : List ℕ) (e : writeNumber rows cols codes outlets bytes ≡ 0) where
   pub written-is : writtenFile rows cols codes outlets bytes ≡ spelling rows cols codes outlets
   unfolding writeAnswer writeLeaves
-  written-is = rw e (front (spelling rows cols codes outlets) bytes _ (writable rows cols codes outlets bytes e .fits) refl)
+  written-is = rw e (front (spelling rows cols codes outlets) bytes _ (room rows cols codes outlets bytes e) refl)
 
 -- ---- what reading leaves
 
@@ -62,14 +62,14 @@ module _ (rows cols : ℕ) (codes outlets bytes grid list : List ℕ)
     (e : writeNumber rows cols codes outlets bytes ≡ 0) (h : rows * cols ≤ length grid) (k : 256 ≤ length list) where
   pub read-back-accepted : readNumber (writtenFile rows cols codes outlets bytes) (length grid) (length list) ≡ 0
   read-back-accepted =
-      let w = writable rows cols codes outlets bytes e in
+      let w = content-spellable rows cols codes outlets bytes e in
       rw (written-is rows cols codes outlets bytes e)
       (spelling-accepted rows cols codes outlets (w .grid) (w .inside) (w .few) (length grid) (length list) h k)
 
   pub read-back : readContent (writtenFile rows cols codes outlets bytes) grid list ≡ lentContent rows cols codes outlets
   unfolding spelling
   read-back =
-      let w = writable rows cols codes outlets bytes e in
+      let w = content-spellable rows cols codes outlets bytes e in
       let tail = outletRecords cols outlets ++ endRecord in
       read-is (writtenFile rows cols codes outlets bytes) grid list read-back-accepted
       ∙ rw (
@@ -114,8 +114,8 @@ module _ (file grid list : List ℕ) (e : readNumber file (length grid) (length 
       sym (spelling-first rows cols codes (fileOutlets file) has-codes)
       ∙ rw (read-codes file grid list e) (sym (accepted file (length grid) (length list) e .spelled))
 
-  again-writable : (room : ℕ) → length file ≤ room → Writable rows cols codes (fileOutlets file) room
-  again-writable room h =
+  again-spellable : Spellable rows cols codes (fileOutlets file)
+  again-spellable =
       let a = accepted file (length grid) (length list) e in
       record {
         grid = record {
@@ -128,12 +128,11 @@ module _ (file grid list : List ℕ) (e : readNumber file (length grid) (length 
         };
         few = a .few-outlets;
         inside = a .tail .inside;
-        fits = rw respelled h;
       }
 
   module _ (bytes : List ℕ) (h : length file ≤ length bytes) where
     again-accepted : writeNumber rows cols codes (fileOutlets file) bytes ≡ 0
-    again-accepted = write-accepted rows cols codes (fileOutlets file) bytes (again-writable (length bytes) h)
+    again-accepted = write-accepted rows cols codes (fileOutlets file) bytes again-spellable (rw respelled h)
 
     pub written-again-accepted : againNumber file grid list bytes ≡ 0
     written-again-accepted =

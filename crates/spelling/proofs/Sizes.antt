@@ -9,7 +9,7 @@ use lib.ListN.{length, take, drop, length-append, length-drop}
 use lib.Seq.{take-at, drop-at, take-add, length-take-le}
 use Rattle.spelling.specs.Format.{rowRecord, endRecord, rowRecords, outletRecords, spelling}
 
-rows-length : (cols row n : ℕ) (codes : List ℕ) → n * cols ≤ length codes
+pub rows-length : (cols row n : ℕ) (codes : List ℕ) → n * cols ≤ length codes
     → length (rowRecords cols row n codes) ≡ n * (4 + cols)
 unfolding rowRecords
 rows-length cols row zero codes h = sym (zero-mul (4 + cols))
@@ -23,7 +23,7 @@ rows-length cols row (suc n) codes h =
       rows-length cols (row + 1) n (drop cols codes) (omega (arith, length-drop cols codes)),
     )
 
-outlets-length : (cols : ℕ) (os : List ℕ) → length (outletRecords cols os) ≡ 6 * length os
+pub outlets-length : (cols : ℕ) (os : List ℕ) → length (outletRecords cols os) ≡ 6 * length os
 unfolding outletRecords
 outlets-length cols [] = refl
 outlets-length cols (o ∷ os) = omega (arith, outlets-length cols os)

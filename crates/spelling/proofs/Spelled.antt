@@ -1,6 +1,6 @@
 -- What is spelled is accepted and read back: record by record, whatever follows.
 -- Assumes nothing.
-use mathlib.Core.Path.{_≡_, refl, sym, _∙_}
+use mathlib.Core.Path.{_≡_, refl, sym, ap, _∙_}
 use mathlib.Core.Bool.{true}
 use mathlib.Core.List.{List, [], _∷_, _++_, append-assoc}
 use Prim.Native.Nat.{ℕ, zero, suc, _+_, _-_, _*_, _/_, _%_, _≤_, _<_}
@@ -19,7 +19,7 @@ use Rattle.spelling.specs.Reading.{numberAt, isRecord, isRow, rowCodes}
 use Rattle.spelling.specs.Reading.{codesFrom, outletCount, outletsFrom, outletChecks}
 use Rattle.spelling.specs.Reading.{tailChecks, rowsChecks, readNumber}
 use Rattle.spelling.specs.Reading.{fileRows, fileCols, fileTail, fileCodes, fileOutlets}
-use Rattle.spelling.proofs.Records.{append-all, is-side, of-bytes, is-record, no-end}
+use Rattle.spelling.proofs.Records.{all-append, is-side, of-bytes, is-record, no-end}
 
 -- ---- rows
 
@@ -56,15 +56,19 @@ rows-read rows cols row (suc n) codes more h a =
     let later = rowRecords cols (row + 1) n below ++ more in
     let m : suc n * cols ≡ cols + n * cols = omega (arith, suc-mul n cols) in
     let t : take (suc n * cols) codes ≡ here ++ take (n * cols) below = rw m (take-add cols (n * cols) codes) in
-    let b = append-all isCode here (take (n * cols) below) (rw t at a) in
+    let b = and-both (allPass isCode here) (allPass isCode (take (n * cols) below))
+    (sym (ap (allPass isCode) t ∙ all-append isCode here (take (n * cols) below)) ∙ a) in
     let size : length here ≡ cols = length-take-le cols codes (omega arith) in
     let e = append-assoc here (rowRecords cols (row + 1) n below) more in
     let ih = rows-read rows cols (row + 1) n below more (omega (arith, length-drop cols codes)) (b .1) in
     let s : suc n * (4 + cols) ≡ 4 + cols + n * (4 + cols) = omega (arith, suc-mul n (4 + cols)) in
+    let same = row-codes cols row here later size in
+    let after = row-after cols row here later size in
     record {
-      number = rw (e, is-row cols row here later size, row-codes cols row here later size, b .0, row-after cols row here later size) (ih .number);
-      same = rw (e, row-codes cols row here later size, row-after cols row here later size, ih .same) (sym t);
-      after = rw (e, s, ← drop-drop (n * (4 + cols)) (4 + cols) (rowRecord row here ++ later), row-after cols row here later size) (ih .after);
+      number = rw (e, is-row cols row here later size, same, b .0, after) (ih .number);
+      same = rw (e, same, after, ih .same) (sym t);
+      after =
+          rw (e, s, ← drop-drop (n * (4 + cols)) (4 + cols) (rowRecord row here ++ later), after) (ih .after);
     }
 
 -- ---- outlets
@@ -98,7 +102,8 @@ pub record OutletsRead (rows cols n : ℕ) (os more : List ℕ) : Type 0 where
 pub outlets-read : (rows cols n : ℕ) (os more : List ℕ) → 0 < cols → allPass (λ o. ltb o (rows * cols)) os ≡ true
     → OutletsRead rows cols n os more
 unfolding tailChecks outletCount outletsFrom outletRecords
-outlets-read rows cols n [] more some a = record { number = rw (zero-add n); count = rw (zero-add n, zero-add (outletCount n more)); same = refl }
+outlets-read rows cols n [] more some a =
+    record { number = rw (zero-add n); count = rw (zero-add n, zero-add (outletCount n more)); same = refl }
 outlets-read rows cols n (o ∷ os) more some a =
     let b = and-both (ltb o (rows * cols)) (allPass (λ x. ltb x (rows * cols)) os) a in
     let i = ltb-true o (rows * cols) (b .0) in
@@ -106,7 +111,9 @@ outlets-read rows cols n (o ∷ os) more some a =
     let ih = outlets-read rows cols n os more some (b .1) in
     let e = no-end (twoBytes (o / cols) ++ (twoBytes (o % cols) ++ later)) in
     record {
-      number = rw (suc-add (length os) n, e, outlet-number rows cols o later some i (tailChecks rows cols (length os + n) later)) (ih .number);
+      number =
+          rw (suc-add (length os) n, e, outlet-number rows cols o later some i (tailChecks rows cols (length os + n) later))
+          (ih .number);
       count = rw (suc-add (length os) n, e) (omega (arith, ih .count));
       same = rw (outlet-cell rows cols o later some i, ih .same);
     }
@@ -205,7 +212,8 @@ module _ (rows cols : ℕ) (codes outlets : List ℕ) (g : SheetGrid rows cols c
         → readNumber (spelling rows cols codes outlets) grid list ≡ 0
     unfolding spelling
     spelling-accepted grid list h k =
-        number-after-rows rows cols codes tail g grid list h k ∙ rw all-records (outlets-back .number ∙ end-number rows cols spare)
+        number-after-rows rows cols codes tail g grid list h k
+        ∙ rw all-records (outlets-back .number ∙ end-number rows cols spare)
 
     -- with its outlets
     pub outlets-same : fileOutlets (spelling rows cols codes outlets) ≡ outlets
