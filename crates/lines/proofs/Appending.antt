@@ -5,7 +5,7 @@ use mathlib.Core.List.{List, [], _∷_, _++_, append-assoc, append-nil}
 use Prim.Native.Nat.{ℕ, zero, suc, _+_, _≤_, _<_, min}
 use native.Mathlib.Omega.{arith}
 use lib.ListN.{length, getD, set, drop, length-append}
-use lib.Seq.{drop-cons, set-append-seam}
+use lib.Seq.{drop-cons, set-append-seam, take-nil}
 use Rattle.answers.specs.Entries.{overlaid}
 use Rattle.answers.proofs.Accepted.{overlaid-length, overlaid-front, overlaid-full}
 use Rattle.lines.specs.Appending.{Holds, Appends}
@@ -66,3 +66,11 @@ appends-both {a} {b} {r = r} {new = new} f g = record {
 
 pub appends-as : {a b : List ℕ} {at r : ℕ} {old new : List ℕ} → a ≡ b → Appends a at old r new → Appends b at old r new
 appends-as {at = at} {r} {old} {new} e f = subst (λ (l : List ℕ). Appends l at old r new) e f
+
+-- from the first place on, what is put is what is held
+pub whole : {bytes : List ℕ} {r : ℕ} {old new : List ℕ} → Appends bytes 0 old r new → Holds bytes old r new
+unfolding overlaid
+whole {old = old} f = f .held [] old (record { counted = omega arith; laid = nothing })
+  where
+    nothing : old ≡ overlaid [] old
+    nothing = sym (ap (λ (l : List ℕ). l ++ old) (take-nil (length old)))

@@ -1,3 +1,4 @@
 pub mod Refusals
 pub mod Starts
 pub mod Outlets
+pub mod Whole

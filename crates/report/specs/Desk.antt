@@ -11,7 +11,6 @@ use Rattle.answers.specs.declared.Traced.{Traced}
 use Rattle.answers.specs.Entries.{zeros, accumulateNumber, accumulateLeaves}
 use Rattle.answers.specs.Tracings.{numberOf, stackNumber, stackAnswer, traceLeavesSub, traceLeavesStarts}
 use Rattle.lines.specs.Line.{catchmentLine, outletLine, pathLine, refusedLine}
-use Rattle.spelling.specs.declared.Sheet.{Sheet}
 use Rattle.spelling.specs.Reading.{readAnswer, readLeavesCodes, readLeavesOutlets}
 
 -- the first number that is a refusal's, and 0 where there is none
@@ -74,30 +73,27 @@ module _ (rows cols : ℕ) (codes accumulation outlets : List ℕ) where
 
 -- ---- the whole output
 
-module _ (file : List ℕ) where
-  abbrev sheet : Sheet
-  sheet = readAnswer file 4096 256
-
-  abbrev codes : List ℕ
-  codes = readLeavesCodes file (zeros 4096) (zeros 256)
-
-  abbrev outlets : List ℕ
-  outlets = take (sheet .outlets) (readLeavesOutlets file (zeros 4096) (zeros 256))
-
+module _ (rows cols count : ℕ) (codes outlets : List ℕ) where
+  -- the accumulation, in places that are started at zero
   abbrev accumulation : List ℕ
-  accumulation = accumulateLeaves (sheet .rows) (sheet .cols) codes (zeros 4096)
+  accumulation = accumulateLeaves rows cols codes (zeros 4096)
 
-  -- reading, accumulating, tracing
-  unfoldable pub deskNumber : ℕ
-  deskNumber = firstNumber (
-      sheet .number
-      ∷ accumulateNumber (sheet .rows) (sheet .cols) codes (zeros 4096)
-      ∷ tracingNumber (sheet .rows) (sheet .cols) codes accumulation outlets
-      ∷ []
-      )
+  -- accumulating, then tracing
+  unfoldable pub sheetNumber : ℕ
+  sheetNumber =
+      firstNumber (accumulateNumber rows cols codes (zeros 4096) ∷ tracingNumber rows cols codes accumulation outlets ∷ [])
 
-  unfoldable pub deskText : List ℕ
-  deskText = cond (eqb deskNumber 0)
-      (catchmentLine (sheet .rows) (sheet .cols) (length outlets)
-      ++ outletsLines (sheet .rows) (sheet .cols) codes accumulation outlets 0 (length outlets))
-      (refusedLine deskNumber)
+  -- of a sheet that was read: "A refusal prints only `refused` and its number"
+  unfoldable pub sheetText : List ℕ
+  sheetText = cond (eqb sheetNumber 0)
+      (catchmentLine rows cols count ++ outletsLines rows cols codes accumulation outlets 0 (length outlets))
+      (refusedLine sheetNumber)
+
+-- of a file: reading comes first
+unfoldable pub deskText : List ℕ → List ℕ
+deskText file =
+    let sheet = readAnswer file 4096 256 in
+    cond (eqb (sheet .number) 0)
+    (sheetText (sheet .rows) (sheet .cols) (sheet .outlets) (readLeavesCodes file (zeros 4096) (zeros 256))
+    (take (sheet .outlets) (readLeavesOutlets file (zeros 4096) (zeros 256))))
+    (refusedLine (sheet .number))

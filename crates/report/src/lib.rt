@@ -7,14 +7,16 @@ use lines::put_catchment;
 use lines::put_outlet;
 use lines::put_path;
 use lines::put_refused;
+use sheets::read;
 use tracing::trace_by_stack;
 ghost use mathlib.Core.Path.{_≡_};
 ghost use Prim.Native.Nat.{_/_, _%_, _≤_, _<_};
 ghost use lib.ListN.{length, take, getD};
 ghost use Rattle.answers.specs.Tracings.{numberOf};
 ghost use Rattle.lines.specs.Line.{pathLine};
-ghost use Rattle.lines.specs.Appending.{Appends};
+ghost use Rattle.lines.specs.Appending.{Appends, Holds};
 ghost use Rattle.report.specs.Desk.{numberAt, numbersFrom, firstNumber, pathLines, linesOf, outletLines, outletsLines};
+ghost use Rattle.report.specs.Desk.{tracingNumber, sheetText, deskText};
 
 // The number of each kind of answer.
 fn number_of(answer: Answer) -> u32
@@ -223,4 +225,82 @@ fn put_outlets(
         place += 1;
     }
     to
+}
+
+// The first refusal of a tracing. The first place is asked for even where there is none.
+fn tracing_number(
+    rows: usize,
+    cols: usize,
+    codes: &[u8],
+    accumulation: &[u32],
+    outlets: &[u32],
+) -> u32
+    ensures { λ r. ⌜ r ≡ tracingNumber rows cols (now (codes .entry)) (now (accumulation .entry)) (now (outlets .entry)) ⌝ }
+{
+    let number = number_at(rows, cols, codes, accumulation, outlets, 0);
+    if number != 0 {
+        return number;
+    }
+    first_refusal(rows, cols, codes, accumulation, outlets)
+}
+
+// What is told of a sheet.
+fn report_sheet(
+    text: &mut [u8],
+    rows: u32,
+    cols: u32,
+    count: u32,
+    codes: &[u8],
+    outlets: &[u32],
+) -> usize
+    requires { ⌜ (0 < cols) × (length (now outlets) ≤ 256) ⌝ }
+    ensures { λ r. ⌜ Appends (sheetText rows cols count (now (codes .entry)) (now (outlets .entry))) 0 (now (text .entry)) r (now (text .exit)) ⌝ }
+{
+    let mut accumulation = [0u32; 4096];
+    let ring = accumulate(index_of(rows), index_of(cols), codes, &mut accumulation);
+    if ring != 0 {
+        return put_refused(text, 0, ring);
+    }
+    let number = tracing_number(
+        index_of(rows),
+        index_of(cols),
+        codes,
+        &accumulation,
+        outlets,
+    );
+    if number != 0 {
+        return put_refused(text, 0, number);
+    }
+    let at = put_catchment(text, 0, rows, cols, count);
+    put_outlets(
+        text,
+        at,
+        index_of(rows),
+        cols,
+        codes,
+        &accumulation,
+        outlets,
+    )
+}
+
+// What the desk prints for a file, put into lent bytes, as much of it as there is room for; how much is handed back.
+pub fn report(file: &[u8], text: &mut [u8]) -> usize
+    ensures { λ r. ⌜ Holds (deskText (now (file .entry))) (now (text .entry)) r (now (text .exit)) ⌝ }
+{
+    let mut codes = [0u8; 4096];
+    let mut list = [0u32; 256];
+    let sheet = read(file, &mut codes, &mut list);
+    let number = sheet.number;
+    if number != 0 {
+        return put_refused(text, 0, number);
+    }
+    let count = places_of(&list, sheet.outlets);
+    report_sheet(
+        text,
+        sheet.rows,
+        sheet.cols,
+        sheet.outlets,
+        &codes,
+        &list[..count],
+    )
 }
