@@ -3,7 +3,8 @@
 use mathlib.Core.Path.{_≡_, refl, sym, ap, _∙_}
 use mathlib.Core.Bool.{Bool, true, false}
 use mathlib.Core.List.{List, [], _++_}
-use Prim.Native.Nat.{ℕ, zero, suc, _-_, _*_, _≤_, _<_}
+use Prim.Native.Nat.{ℕ, zero, suc, _-_, _*_, _^_, _≤_, _<_}
+use native.Mathlib.Nat.{mul-le-mul}
 use native.Mathlib.Omega.{arith}
 use lib.ListN.{length, getD, take, drop}
 use lib.Seq.{take-all, take-at}
@@ -132,3 +133,18 @@ pub drawn-flow-path : (rows cols : ℕ) (codes accumulation outlets : List ℕ) 
     (drawnPart rows cols codes accumulation outlets place start places)
 drawn-flow-path rows cols codes accumulation outlets place start places z =
     draws-flow-path (callOf rows cols codes accumulation outlets place start places) z
+
+-- and it has no more cells than a grid
+pub drawn-few : (rows cols : ℕ) (codes accumulation outlets : List ℕ) (place start : ℕ) (places : List ℕ)
+    → length (drawnPart rows cols codes accumulation outlets place start places) ≤ 2 ^ 24
+unfolding drawnPart
+drawn-few rows cols codes accumulation outlets place start places = go (eqb (number q) 0) refl
+  where
+    q : Call
+    q = callOf rows cols codes accumulation outlets place start places
+
+    go : (b : Bool) → eqb (number q) 0 ≡ b → length (part q) ≤ 2 ^ 24
+    go true e =
+        let d = drawable q (eqb-true (number q) 0 e) refl in
+        omega (arith, d .few, mul-le-mul (d .rows-small) (d .cols-small))
+    go false e = rw e (omega arith)

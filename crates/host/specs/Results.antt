@@ -7,6 +7,7 @@ use lib.Dec.{eqb}
 use Rattle.answers.specs.declared.Answer.{Answer}
 use Rattle.answers.specs.declared.Answer.the-variants.{Found, NoPlace, Refused}
 use Rattle.answers.specs.declared.Traced.{Traced}
+use Rattle.spelling.specs.declared.Sheet.{Sheet}
 
 -- a number other than 0 stands for yes
 abbrev pub isYes : ℕ → Bool
@@ -20,3 +21,7 @@ fiveOf (Refused number) visited dropped = 0 ∷ 0 ∷ 0 ∷ visited ∷ dropped 
 
 abbrev pub resultsOf : Traced → List ℕ
 resultsOf t = fiveOf (t .answer) (t .visited) (t .dropped)
+
+-- R, C and the outlet count of a sheet
+abbrev pub shapeOf : Sheet → List ℕ
+shapeOf s = s .rows ∷ s .cols ∷ s .outlets ∷ []

@@ -3,11 +3,16 @@
 use answers::Answer;
 use answers::Traced;
 ghost use mathlib.Core.Path.{_≡_};
+ghost use mathlib.Core.List.{[], _∷_};
+ghost use lib.ListN.{length};
 ghost use Rattle.answers.specs.Entries.{accumulateNumber, accumulateLeaves, checkNumber};
 ghost use Rattle.answers.specs.Entries.{subaccumulateNumber, subaccumulateLeaves};
 ghost use Rattle.answers.specs.Tracings.{numberOf, recursionNumber, recursionAnswer, traceLeavesSub, traceLeavesStarts};
 ghost use Rattle.answers.specs.Tracings.{stackNumber, stackAnswer, traceLeavesWork};
-ghost use Rattle.host.specs.Results.{isYes, resultsOf};
+ghost use Rattle.answers.specs.Drawing.{drawNumber, drawnPart, drawLeaves};
+ghost use Rattle.spelling.specs.Reading.{readAnswer, readLeavesCodes, readLeavesOutlets};
+ghost use Rattle.spelling.specs.Writing.{writeAnswer, writeLeaves};
+ghost use Rattle.host.specs.Results.{isYes, resultsOf, shapeOf};
 
 #[no_mangle]
 pub extern "C" fn jb_accumulate(
@@ -176,4 +181,83 @@ pub extern "C" fn jb_trace_by_recursion(
         starts,
     );
     tell(t, results)
+}
+
+#[no_mangle]
+pub extern "C" fn jb_draw(
+    rows: usize,
+    cols: usize,
+    codes: &[u8],
+    accumulation: &[u32],
+    outlets: &[u32],
+    place: usize,
+    start: u32,
+    places: &mut [u32],
+    drawn: &mut [u32; 1],
+) -> u32
+    ensures answers { λ r. ⌜ r
+        ≡ drawNumber rows cols (now (codes .entry)) (now (accumulation .entry)) (now (outlets .entry)) place start
+        (now (places .entry)) ⌝ }
+    ensures counts { λ _. ⌜ now (drawn .exit)
+        ≡ length (drawnPart rows cols (now (codes .entry)) (now (accumulation .entry)) (now (outlets .entry)) place start
+        (now (places .entry))) ∷ [] ⌝ }
+    ensures leaves { λ _. ⌜ now (places .exit)
+        ≡ drawLeaves rows cols (now (codes .entry)) (now (accumulation .entry)) (now (outlets .entry)) place start
+        (now (places .entry)) ⌝ }
+{
+    let d = drawing::draw_into(
+        rows,
+        cols,
+        codes,
+        accumulation,
+        outlets,
+        place,
+        start,
+        places,
+    );
+    let count = d.count;
+    *drawn = [count as u32];
+    d.number
+}
+
+#[no_mangle]
+pub extern "C" fn jb_read_sheet(
+    file: &[u8],
+    codes: &mut [u8],
+    outlets: &mut [u32],
+    shape: &mut [u32; 3],
+) -> u32
+    ensures answers { λ r. ⌜ r
+        ≡ readAnswer (now (file .entry)) (length (now (codes .entry))) (length (now (outlets .entry))) .number ⌝ }
+    ensures tells { λ _. ⌜ now (shape .exit)
+        ≡ shapeOf (readAnswer (now (file .entry)) (length (now (codes .entry))) (length (now (outlets .entry)))) ⌝ }
+    ensures codes { λ _. ⌜ now (codes .exit)
+        ≡ readLeavesCodes (now (file .entry)) (now (codes .entry)) (now (outlets .entry)) ⌝ }
+    ensures outlets { λ _. ⌜ now (outlets .exit)
+        ≡ readLeavesOutlets (now (file .entry)) (now (codes .entry)) (now (outlets .entry)) ⌝ }
+{
+    let sheet = sheets::read(file, codes, outlets);
+    *shape = [sheet.rows, sheet.cols, sheet.outlets];
+    sheet.number
+}
+
+#[no_mangle]
+pub extern "C" fn jb_write_sheet(
+    rows: usize,
+    cols: usize,
+    codes: &[u8],
+    outlets: &[u32],
+    file: &mut [u8],
+    length: &mut [u32; 1],
+) -> u32
+    ensures answers { λ r. ⌜ r
+        ≡ writeAnswer rows cols (now (codes .entry)) (now (outlets .entry)) (now (file .entry)) .number ⌝ }
+    ensures tells { λ _. ⌜ now (length .exit)
+        ≡ writeAnswer rows cols (now (codes .entry)) (now (outlets .entry)) (now (file .entry)) .length ∷ [] ⌝ }
+    ensures leaves { λ _. ⌜ now (file .exit)
+        ≡ writeLeaves rows cols (now (codes .entry)) (now (outlets .entry)) (now (file .entry)) ⌝ }
+{
+    let written = sheets::write(rows, cols, codes, outlets, file);
+    *length = [written.length];
+    written.number
 }
