@@ -8,12 +8,12 @@ use native.Mathlib.Omega.{arith}
 use lib.ListN.{length, getD, take, drop, length-drop, drop-of-length-le}
 use lib.Seq.{sets, drop-cons, drop-drop, length-take-le}
 use Rattle.spelling.specs.Format.{rowRecord, outletRecord, rowRecords, outletRecords}
-use Rattle.sheets.proofs.Stores.{sets-append}
+use Rattle.sheets.proofs.Stores.{sets-after}
 
 -- what is stored after other bytes
 pub then : (l : List ℕ) {l₁ l₂ : List ℕ} (at next : ℕ) (xs ys : List ℕ) → l₁ ≡ sets l at xs → next ≡ at + length xs
     → l₂ ≡ sets l₁ next ys → l₂ ≡ sets l at (xs ++ ys)
-then l at next xs ys e n f = f ∙ rw (e, n) (sym (sets-append l at xs ys))
+then l at next xs ys e n f = f ∙ rw (e, n) (sets-after xs ys l at)
 
 -- ---- n rows, from `row` on
 
@@ -38,8 +38,8 @@ module _ (l codes : List ℕ) (cols row at from : ℕ) where
       let m : from + cols - from ≡ cols = omega arith in
       let size : length (rowRecord row here) ≡ 4 + cols = omega (arith, here-length k) in
       rw (e, ← size, m, ← drop-drop cols from codes)
-      (sets-append l at (rowRecord row (take cols (drop from codes)))
-      (rowRecords cols (row + 1) n (drop cols (drop from codes))))
+      (sym (sets-after (rowRecord row (take cols (drop from codes)))
+      (rowRecords cols (row + 1) n (drop cols (drop from codes))) l at))
 
   pub rows-put : (n : ℕ) → n ≡ 0 → l ≡ sets l at (rowRecords cols row n (drop from codes))
   unfolding rowRecords
@@ -54,8 +54,8 @@ module _ (l outlets : List ℕ) (cols k at : ℕ) where
   unfolding outletRecords
   outlets-next h o e =
       rw (drop-cons outlets k 0 h, e, add-one k)
-      (sets-append l at (outletRecord (getD outlets k 0 / cols) (getD outlets k 0 % cols))
-      (outletRecords cols (drop (suc k) outlets)))
+      (sym (sets-after (outletRecord (getD outlets k 0 / cols) (getD outlets k 0 % cols))
+      (outletRecords cols (drop (suc k) outlets)) l at))
 
   pub outlets-put : length outlets ≤ k → l ≡ sets l at (outletRecords cols (drop k outlets))
   unfolding outletRecords

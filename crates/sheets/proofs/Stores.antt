@@ -3,7 +3,7 @@
 use mathlib.Core.Path.{_≡_, sym, _∙_}
 use mathlib.Core.List.{List, [], _∷_, _++_}
 use Prim.Native.Nat.{ℕ, zero, suc, _+_, _-_, _*_, _≤_, _<_}
-use native.Mathlib.Nat.{add-zero, add-suc, suc-add, suc-mul, mul-le-mul}
+use native.Mathlib.Nat.{add-zero, suc-mul, mul-le-mul}
 use native.Mathlib.Numerals.{add-one}
 use native.Mathlib.Omega.{arith}
 use lib.ListN.{length, getD, take, drop, set, drop-of-length-le}
@@ -13,10 +13,11 @@ use Rattle.answers.proofs.Accepted.{overlaid-front}
 use Rattle.spelling.specs.Reading.{numberAt, rowCodes, codesFrom, outletsFrom}
 use Rattle.sheets.proofs.Steps.{part-row, part-length}
 
-pub sets-append : (l : List ℕ) (i : ℕ) (xs ys : List ℕ) → sets l i (xs ++ ys) ≡ sets (sets l i xs) (i + length xs) ys
-sets-append l i [] ys = rw (add-zero i)
-sets-append l i (x ∷ xs) ys =
-    rw (add-suc i (length xs), ← suc-add i (length xs)) (sets-append (set l i x) (suc i) xs ys)
+-- one run of stores after another
+pub sets-after : (xs ys l : List ℕ) (i : ℕ) → sets (sets l i xs) (i + length xs) ys ≡ sets l i (xs ++ ys)
+sets-after [] ys l i = rw (add-zero i)
+sets-after (x ∷ xs) ys l i =
+    let e : i + suc (length xs) ≡ suc i + length xs = omega arith in rw e (sets-after xs ys (set l i x) (suc i))
 
 -- from the start, where there is room
 pub sets-overlaid : (l xs : List ℕ) → length xs ≤ length l → sets l 0 xs ≡ overlaid xs l
@@ -55,7 +56,7 @@ module _ (l file : List ℕ) (cols to at : ℕ) where
       let here = rowCodes cols (drop at file) in
       let size : length here ≡ cols = rw (part-row file cols at) at (part-length file cols at k) in
       let d : at + 4 + cols ≡ at + (4 + cols) = omega arith in
-      sets-append l to here (codesFrom cols n (drop (4 + cols) (drop at file)))
+      sym (sets-after here (codesFrom cols n (drop (4 + cols) (drop at file))) l to)
       ∙ rw (size, part-row file cols at, e, d, drop-drop (4 + cols) at file)
 
   pub codes-stored : (n : ℕ) → n ≡ 0 → l ≡ sets l to (codesFrom cols n (drop at file))

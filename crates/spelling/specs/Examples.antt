@@ -8,7 +8,7 @@ use Rattle.answers.specs.Marked.{nines}
 use Rattle.spelling.specs.declared.Sheet.{Sheet}
 use Rattle.spelling.specs.declared.Written.{Written}
 use Rattle.spelling.specs.Format.{outletRecord, endRecord, spelling}
-use Rattle.spelling.specs.Reading.{sheetRefused, readAnswer, readLeavesCodes, readLeavesOutlets}
+use Rattle.spelling.specs.Reading.{readAnswer, readLeavesCodes, readLeavesOutlets}
 use Rattle.spelling.specs.Writing.{writeAnswer, writeLeaves}
 
 pub data Example : Type 0 where
@@ -40,7 +40,8 @@ twoRows = spelling 2 4 (4 ∷ 4 ∷ 4 ∷ 0 ∷ 1 ∷ 1 ∷ 1 ∷ 1 ∷ []) []
 -- a file that is refused where so many places are lent, all of them nines
 abbrev refuses : List ℕ → ℕ → ℕ → ℕ → Example
 refuses file grid list number =
-    reads file (nines grid) (nines list) (sheetRefused number) (nines grid) (nines list)
+    reads file (nines grid) (nines list) (record { number = number; rows = 0; cols = 0; outlets = 0 }) (nines grid)
+    (nines list)
 
 -- in enough places
 abbrev damaged : List ℕ → ℕ → Example

@@ -16,7 +16,7 @@ use Rattle.spelling.specs.declared.Sheet.{Sheet}
 unfoldable pub numberAt : ℕ → List ℕ → ℕ
 numberAt at rest = getD rest at 0 + 256 * getD rest (at + 1) 0
 
--- is there a whole record of so many bytes, with this mark?
+-- do so many bytes still stand here, the mark first?
 unfoldable pub isRecord : Mark → ℕ → List ℕ → Bool
 isRecord m size rest =
     leb size (length rest) && (eqb (getD rest 0 0) (m .first) && eqb (getD rest 1 0) (m .second))
