@@ -124,6 +124,7 @@ pub extern "C" fn jb_trace_by_stack(
         (now (subaccumulation .entry)) (now (starts .entry)) (now (work .entry)))
         (now (work .entry)) ⌝ }
 {
+    let drops = dropping != 0;
     let t = tracing::trace_by_stack(
         rows,
         cols,
@@ -131,7 +132,7 @@ pub extern "C" fn jb_trace_by_stack(
         accumulation,
         outlets,
         place,
-        dropping != 0,
+        drops,
         subaccumulation,
         starts,
         work,
@@ -169,6 +170,7 @@ pub extern "C" fn jb_trace_by_recursion(
         (recursionNumber (isYes dropping) rows cols (now (codes .entry)) (now (accumulation .entry)) (now (outlets .entry)) place
         (now (subaccumulation .entry)) (now (starts .entry))) ⌝ }
 {
+    let with_dropping = dropping != 0;
     let t = tracing::trace_by_recursion(
         rows,
         cols,
@@ -176,7 +178,7 @@ pub extern "C" fn jb_trace_by_recursion(
         accumulation,
         outlets,
         place,
-        dropping != 0,
+        with_dropping,
         subaccumulation,
         starts,
     );
