@@ -14,7 +14,8 @@ pub fn run(comparison: &mut Comparison, random: &mut Random) {
 }
 
 /// A small sheet cut at every length, and with every single byte changed to
-/// every other.
+/// every other. Each change is refused or makes another sound sheet; both are
+/// counted.
 fn small_sheets(comparison: &mut Comparison) {
     let sheets = [
         sheet(1, 4, &[1, 4, 16, 16], &[1]),
@@ -26,13 +27,23 @@ fn small_sheets(comparison: &mut Comparison) {
         for length in 0..=file.len() {
             comparison.read_sheet(&file[..length], 4096, 256);
         }
+        let (mut refused, mut another) = (0, 0);
         for at in 0..file.len() {
             for byte in 0..=255 {
                 let mut damaged = file.clone();
                 damaged[at] = byte;
-                comparison.read_sheet(&damaged, 6, 256);
+                let number = comparison.read_sheet(&damaged, 6, 256);
+                match number {
+                    _ if damaged == file => (),
+                    0 => another += 1,
+                    _ => refused += 1,
+                }
             }
         }
+        println!(
+            "{} bytes of a small sheet, each changed to every other: {refused} refused, {another} read as another sheet",
+            file.len()
+        );
         for more in 0..=255 {
             let mut longer = file.clone();
             longer.push(more);

@@ -1,6 +1,7 @@
 //! Small grids with their answers spelled out by hand.
 
 use second_reading::entries::Terrain;
+use second_reading::sheet::sheet;
 
 use crate::calls::{Ask, Comparison, Engine, Rooms};
 
@@ -36,7 +37,7 @@ const fn answer(
 }
 
 #[rustfmt::skip]
-const TRAPS: [Trap; 20] = [
+const TRAPS: [Trap; 26] = [
     Trap {
         name: "M1", rows: 1, cols: 1,
         codes: &[1],
@@ -242,6 +243,84 @@ const TRAPS: [Trap; 20] = [
         outlets: &[1],
         answers: &[answer(6, (0, 1), &[5, 3], 6, 0)],
     },
+    Trap {
+        // M2 with 0 an outlet too: its cell and its tie are its own.
+        name: "an outlet beside a tie", rows: 1, cols: 3,
+        codes: &[1, 4, 16],
+        accumulation: &[1, 3, 1],
+        outlets: &[1, 0],
+        answers: &[
+            answer(2, (1, 0), &[2], 2, 0),
+            answer(1, (0, 0), &[0], 1, 0),
+        ],
+    },
+    Trap {
+        // East and west tie at 1 before the north leads to 2: one list place
+        // suffices, and a second keeps what it held.
+        name: "short ties need no place", rows: 3, cols: 3,
+        codes: &[0, 4, 0, 0, 4, 0, 1, 4, 16],
+        accumulation: &[0, 1, 0, 0, 2, 0, 1, 5, 1],
+        outlets: &[7],
+        answers: &[answer(5, (2, 0), &[1], 5, 0)],
+    },
+    Trap {
+        // East comes before south-west at the outlet, though what lies at the
+        // end has the greater number.
+        name: "a tie in the order of routes", rows: 3, cols: 7,
+        codes: &[
+            0, 0, 0, 64, 16, 0, 0,
+            0, 0, 128, 0, 0, 32, 0,
+            1, 128, 0, 0, 0, 0, 32,
+        ],
+        accumulation: &[
+            0, 0, 0, 7, 3, 0, 0,
+            0, 0, 3, 0, 0, 2, 0,
+            1, 2, 0, 0, 0, 0, 1,
+        ],
+        outlets: &[3],
+        answers: &[answer(7, (1, 2), &[20, 14], 7, 0)],
+    },
+    Trap {
+        name: "a spiral", rows: 3, cols: 3,
+        codes: &[1, 1, 64, 64, 1, 4, 64, 16, 16],
+        accumulation: &[7, 8, 9, 6, 1, 2, 5, 4, 3],
+        outlets: &[2],
+        answers: &[answer(9, (8, 0), &[4], 9, 0)],
+    },
+    Trap {
+        // Three times the greatest grows, to 3, 2 + √2 and 1 + 2√2; 32 and 18,
+        // at 2, then drop three single cells each. The longest comes last.
+        name: "drops before the longest", rows: 6, cols: 7,
+        codes: &[
+            2, 0, 0, 0, 0, 0, 0,
+            0, 2, 2, 2, 4, 8, 8,
+            0, 0, 2, 2, 4, 8, 8,
+            0, 0, 2, 8, 16, 16, 16,
+            0, 0, 0, 128, 64, 32, 32,
+            0, 0, 128, 128, 64, 32, 32,
+        ],
+        accumulation: &[
+            1, 0, 0, 0, 0, 0, 0,
+            0, 2, 1, 1, 1, 1, 1,
+            0, 0, 3, 2, 4, 2, 1,
+            0, 0, 1, 26, 22, 4, 1,
+            0, 0, 0, 3, 4, 2, 1,
+            0, 0, 1, 1, 1, 1, 1,
+        ],
+        outlets: &[24],
+        answers: &[answer(26, (0, 3), &[0], 20, 6)],
+    },
+    Trap {
+        // East of a single column lies no cell, though the next number is one.
+        name: "one column", rows: 2, cols: 1,
+        codes: &[1, 1],
+        accumulation: &[1, 1],
+        outlets: &[0, 1],
+        answers: &[
+            answer(1, (0, 0), &[0], 1, 0),
+            answer(1, (0, 0), &[1], 1, 0),
+        ],
+    },
 ];
 
 pub fn run(comparison: &mut Comparison) {
@@ -250,7 +329,9 @@ pub fn run(comparison: &mut Comparison) {
         tracing(comparison, trap);
         drawing(comparison, trap);
     }
+    whole_subaccumulation(comparison);
     refusals(comparison);
+    sheets(comparison);
 }
 
 impl Trap {
@@ -310,6 +391,25 @@ fn drawing(comparison: &mut Comparison, trap: &Trap) {
     }
 }
 
+/// Three outlets on one walk, listed in another order than it meets them: every
+/// cell's subaccumulation.
+fn whole_subaccumulation(comparison: &mut Comparison) {
+    comparison.about("trap: outlets along a walk".to_string());
+    let accumulation = &[1, 2, 3, 4, 5, 6];
+    let terrain = Terrain { rows: 1, cols: 6, codes: &[1; 6], accumulation };
+    let outlets = &[2, 0, 5];
+    assert_eq!(comparison.subaccumulate(terrain, outlets, 6), 0);
+    for (place, start, steps) in [(0, 1, 1), (1, 0, 0), (2, 3, 2)] {
+        for engine in [Engine::Stack, Engine::Recursion] {
+            let ask = Ask { terrain, outlets, place, dropping: 1 };
+            let work = 3 * (steps as usize + 1);
+            let traced = comparison.trace(engine, ask, Rooms { grid: 6, list: 1, work });
+            assert_eq!((traced.number, traced.results), (0, [steps, 0, 1, steps + 1, 0]));
+            assert_eq!((traced.grid, traced.list), (vec![1, 1, 2, 1, 2, 3], vec![start]));
+        }
+    }
+}
+
 /// Single calls with the numbers they must give.
 fn refusals(comparison: &mut Comparison) {
     comparison.about("trap: M6, a ring".to_string());
@@ -349,4 +449,49 @@ fn refusals(comparison: &mut Comparison) {
     assert_eq!(draw(0, 9), (22, vec![]), "no cell");
     assert_eq!(draw(0, u32::MAX), (22, vec![]), "no cell");
     assert_eq!(draw(2, 7), (18, vec![]));
+
+    comparison.about("trap: a null outlet after a repeated one".to_string());
+    let accumulation = &[1, 2, 3, 4, 0];
+    let terrain = Terrain { rows: 1, cols: 5, codes: &[1, 1, 1, 1, 0], accumulation };
+    for (outlets, number) in [(&[3, 3, 4][..], 16), (&[3, 3, 5], 16), (&[3, 3], 17)] {
+        assert_eq!(comparison.subaccumulate(terrain, outlets, 5), number);
+        for engine in [Engine::Stack, Engine::Recursion] {
+            let ask = Ask { terrain, outlets, place: 0, dropping: 1 };
+            let traced = comparison.trace(engine, ask, Rooms { grid: 5, list: 5, work: 15 });
+            assert_eq!((traced.number, traced.results), (number, [0; 5]));
+        }
+        assert_eq!(comparison.draw(terrain, outlets, 0, 0, 5), (number, vec![]));
+    }
+}
+
+/// Sheets with the numbers that reading them must give.
+fn sheets(comparison: &mut Comparison) {
+    // Bytes of records: a header has 6, a row 4 and its codes, an outlet 6.
+    comparison.about("trap: a column that would be a cell of the next row".to_string());
+    let mut file = sheet(2, 4, &[16; 8], &[3]);
+    assert_eq!(comparison.read_sheet(&file, 8, 256), 0);
+    let column = 6 + 2 * 8 + 4;
+    assert_eq!(file[column], 3);
+    for (byte, number) in [(5, 7), (4, 7), (0, 0)] {
+        file[column] = byte;
+        assert_eq!(comparison.read_sheet(&file, 8, 256), number);
+    }
+
+    comparison.about("trap: an outlet too many, outside and inside".to_string());
+    let mut file = sheet(2, 4, &[16; 8], &[7; 257]);
+    assert_eq!(comparison.read_sheet(&file, 8, 256), 8);
+    let row = file.len() - 2 - 4;
+    assert_eq!(file[row], 1);
+    file[row] = 2;
+    assert_eq!(comparison.read_sheet(&file, 8, 256), 7);
+
+    comparison.about("trap: a wrong code before a cut row".to_string());
+    let mut codes = [16; 8];
+    codes[1] = 3;
+    let file = sheet(2, 4, &codes, &[3]);
+    let second = 6 + 8;
+    for length in second..second + 8 {
+        assert_eq!(comparison.read_sheet(&file[..length], 8, 256), 5);
+    }
+    assert_eq!(comparison.read_sheet(&file[..second - 1], 8, 256), 4);
 }
