@@ -1,23 +1,35 @@
-/* Plain C for the same work, without proofs, checks of the call or exact lengths: what a quick hand would write. */
+/* The same work in plain C: no proofs, no checks of the call beyond codes and accumulation, lengths compared in doubles. */
 #ifndef JINXBANYAN_BASELINES_H
 #define JINXBANYAN_BASELINES_H
+
 #include <stddef.h>
 #include <stdint.h>
 
-struct found {
+struct plain_found {
     uint32_t straight, diagonal, paths, visited, dropped;
 };
 
-/* 0, or 13 on a ring */
-int look_around(size_t rows, size_t cols, const uint8_t *codes, uint32_t *accumulation);
-int inflow_count(size_t rows, size_t cols, const uint8_t *codes, uint32_t *accumulation, uint32_t *queue);
-/* 0, 12 or 14 */
-int equation(size_t rows, size_t cols, const uint8_t *codes, const uint32_t *accumulation);
-/* the longest paths to one outlet of a filled grid, by a stack of pending cells and lengths in doubles */
-struct found stack_search(size_t rows, size_t cols, const uint8_t *codes, const uint32_t *subaccumulation,
-                          const uint32_t *outlets, size_t count, uint32_t outlet, int dropping, uint32_t *starts,
-                          size_t places, uint32_t *work);
-/* the cells from a start to an outlet, their number handed back */
-size_t draw(size_t rows, size_t cols, const uint8_t *codes, const uint32_t *outlets, size_t count, uint32_t start,
-            uint32_t *places);
+/* Each cell is summed up from its neighbours once they are known. 0, 12, or 13 with zeros left. */
+uint32_t plain_look_around(size_t rows, size_t cols, const uint8_t *codes, uint32_t *accumulation);
+
+/* Inflows are counted first; cells with none left wait in a queue. left and queue have a place for each cell. */
+uint32_t plain_inflow_count(size_t rows, size_t cols, const uint8_t *codes, uint32_t *accumulation, uint8_t *left,
+                            uint32_t *queue);
+
+/* The equation at each cell. 0, 12 or 14. */
+uint32_t plain_equation(size_t rows, size_t cols, const uint8_t *codes, const uint32_t *accumulation);
+
+/* The equation, then each cell from its neighbours without outlets. marks has a place for each cell. 0, 12 or 14. */
+uint32_t plain_subaccumulate(size_t rows, size_t cols, const uint8_t *codes, const uint32_t *accumulation,
+                             const uint32_t *outlets, size_t count, uint32_t *subaccumulation, uint8_t *marks);
+
+/* The longest paths to an outlet, from pending cells; the subaccumulation and the marks are those of
+   plain_subaccumulate. work has three numbers for each of the outlet's cells, which are left 0. */
+struct plain_found plain_search(size_t rows, size_t cols, const uint8_t *codes, const uint32_t *subaccumulation,
+                                const uint8_t *marks, uint32_t outlet, int dropping, uint32_t *starts, size_t places,
+                                uint32_t *work);
+
+/* The cells from a start to an outlet; their number, or 0 where the walk misses it. */
+size_t plain_draw(size_t rows, size_t cols, const uint8_t *codes, uint32_t outlet, uint32_t start, uint32_t *places);
+
 #endif

@@ -1,0 +1,130 @@
+//! Measures Jinxbanyan's host library beside plain C and the Rust implementation, and prints the
+//! tables in Markdown.
+//!
+//! * `bench` measures everything;
+//! * `bench quick` leaves the largest grids out.
+
+mod grounds;
+mod host;
+mod measure;
+mod plain;
+mod room;
+mod tables;
+mod trials;
+
+use std::env;
+use std::fs;
+use std::process::ExitCode;
+use std::thread;
+
+use measure::{Best, Clock};
+use tables::Size;
+use trials::Runs;
+
+/// Sides, and how often each does its work.
+const SIZES: [(usize, Runs); 3] = [
+    (64, Runs { quick: 15, rust: 15 }),
+    (1024, Runs { quick: 9, rust: 7 }),
+    (4096, Runs { quick: 5, rust: 2 }),
+];
+
+/// The Rust implementation recurs as deep as the longest walk has cells.
+const STACK: usize = 512 << 20;
+
+fn main() -> ExitCode {
+    let arguments: Vec<String> = env::args().skip(1).collect();
+    let arguments: Vec<&str> = arguments.iter().map(String::as_str).collect();
+    let sizes = match arguments[..] {
+        [] => 3,
+        ["quick"] => 2,
+        ["memory", who, work] => {
+            room::memory_of(who, work);
+            return ExitCode::SUCCESS;
+        }
+        _ => {
+            eprintln!("use: bench [quick]");
+            return ExitCode::from(2);
+        }
+    };
+    let worker = thread::Builder::new().stack_size(STACK).spawn(move || bench(sizes));
+    match worker.expect("a thread starts").join() {
+        Ok(()) => ExitCode::SUCCESS,
+        Err(_) => ExitCode::from(1),
+    }
+}
+
+fn bench(sizes: usize) {
+    machine();
+    let memory = room::memory();
+    let mut clock = Clock::default();
+    let mut measured = Vec::new();
+    for (side, runs) in SIZES.into_iter().take(sizes) {
+        let sets = trials::Sets::new(side * side);
+        let mut grounds = Vec::new();
+        for (kind, make) in grounds::KINDS {
+            eprintln!("{kind} {side}");
+            grounds.push(trials::trial(&make(side), runs, &sets, &mut clock));
+        }
+        measured.push(Size { name: format!("{}²", tables::grouped(side)), grounds });
+    }
+    let largest = measured.last().expect("a size");
+    tables::aims(largest);
+    measured.iter().rev().for_each(tables::ratios);
+    tables::growth(&measured);
+    tables::times(largest);
+    memory.print();
+    room::stacks();
+    noise(&clock.bests);
+}
+
+/// The machine, the compilers, and what is lent.
+fn machine() {
+    let processor = fs::read_to_string("/proc/cpuinfo").unwrap_or_default();
+    let processor = processor.lines().find_map(|line| line.strip_prefix("model name"));
+    let processor = processor.map_or("unknown", |name| name.trim_start_matches([' ', '\t', ':']));
+    let load = fs::read_to_string("/proc/loadavg").unwrap_or_default();
+    let cores = thread::available_parallelism().map_or(0, usize::from);
+    println!("- Machine: {processor}, {cores} cores, load before the run {}", one_minute(&load));
+    println!("- C: {}; Rust: {}, release", env!("GCC"), env!("RUSTC"));
+    let runs = SIZES.map(|(side, Runs { quick, rust })| {
+        format!("{quick} ({rust} of the Rust implementation) at {}²", tables::grouped(side))
+    });
+    println!("- Times are CPU time of the process, the best of {}", runs.join(", "));
+    println!(
+        "- Search and path stand for the time of a whole call less that of one refused after its \
+         checks; ~ where noise may hide it"
+    );
+    println!(
+        "- Lent: grids of R × C places, a list of {} starts, working space of 3 × R × C numbers, \
+         R × C places to draw in; all written before",
+        tables::grouped(trials::LIST)
+    );
+    println!(
+        "- The Rust implementation walks from every cell: it traces where that is at most {} \
+         steps, and where it is many only once, with dropping\n",
+        tables::grouped(trials::MOST_STEPS as usize)
+    );
+}
+
+fn one_minute(load: &str) -> &str {
+    load.split_whitespace().next().unwrap_or("unknown")
+}
+
+/// How far the second best of a measurement lies from the best, and wall time from CPU time.
+fn noise(bests: &[Best]) {
+    let middle = |mut list: Vec<f64>| {
+        list.sort_by(f64::total_cmp);
+        (list[list.len() / 2], list[list.len() * 9 / 10])
+    };
+    let spread = bests.iter().filter_map(|best| Some(best.spread? / best.cpu)).collect();
+    let wall = bests.iter().map(|best| best.wall / best.cpu - 1.0).collect();
+    let (spread, wall) = (middle(spread), middle(wall));
+    println!(
+        "Noise: the second best lies {:.1} % above the best in half of the measurements, {:.1} % \
+         in a tenth; wall time {:.1} % above CPU time in half, {:.1} % in a tenth.",
+        spread.0 * 100.0,
+        spread.1 * 100.0,
+        wall.0 * 100.0,
+        wall.1 * 100.0
+    );
+}

@@ -1,0 +1,166 @@
+//! The plain C, called with slices.
+
+mod c {
+    #[repr(C)]
+    pub struct Found {
+        pub straight: u32,
+        pub diagonal: u32,
+        pub paths: u32,
+        pub visited: u32,
+        pub dropped: u32,
+    }
+
+    extern "C" {
+        pub fn plain_look_around(
+            rows: usize,
+            cols: usize,
+            codes: *const u8,
+            accumulation: *mut u32,
+        ) -> u32;
+
+        pub fn plain_inflow_count(
+            rows: usize,
+            cols: usize,
+            codes: *const u8,
+            accumulation: *mut u32,
+            left: *mut u8,
+            queue: *mut u32,
+        ) -> u32;
+
+        pub fn plain_equation(
+            rows: usize,
+            cols: usize,
+            codes: *const u8,
+            accumulation: *const u32,
+        ) -> u32;
+
+        pub fn plain_subaccumulate(
+            rows: usize,
+            cols: usize,
+            codes: *const u8,
+            accumulation: *const u32,
+            outlets: *const u32,
+            count: usize,
+            subaccumulation: *mut u32,
+            marks: *mut u8,
+        ) -> u32;
+
+        pub fn plain_search(
+            rows: usize,
+            cols: usize,
+            codes: *const u8,
+            subaccumulation: *const u32,
+            marks: *const u8,
+            outlet: u32,
+            dropping: i32,
+            starts: *mut u32,
+            places: usize,
+            work: *mut u32,
+        ) -> Found;
+
+        pub fn plain_draw(
+            rows: usize,
+            cols: usize,
+            codes: *const u8,
+            outlet: u32,
+            start: u32,
+            places: *mut u32,
+        ) -> usize;
+    }
+}
+
+use second_reading::entries::Terrain;
+
+// SAFETY of all calls below: every slice has a place for each cell, the working space three
+// numbers for each, and outlets and starts are cells.
+
+pub fn look_around(rows: usize, cols: usize, codes: &[u8], accumulation: &mut [u32]) -> u32 {
+    assert!(codes.len() >= rows * cols && accumulation.len() >= rows * cols);
+    unsafe { c::plain_look_around(rows, cols, codes.as_ptr(), accumulation.as_mut_ptr()) }
+}
+
+pub fn inflow_count(
+    rows: usize,
+    cols: usize,
+    codes: &[u8],
+    accumulation: &mut [u32],
+    left: &mut [u8],
+    queue: &mut [u32],
+) -> u32 {
+    let cells = rows * cols;
+    assert!(codes.len() >= cells && accumulation.len() >= cells);
+    assert!(left.len() >= cells && queue.len() >= cells);
+    let (accumulation, left, queue) =
+        (accumulation.as_mut_ptr(), left.as_mut_ptr(), queue.as_mut_ptr());
+    unsafe { c::plain_inflow_count(rows, cols, codes.as_ptr(), accumulation, left, queue) }
+}
+
+pub fn equation(terrain: Terrain) -> u32 {
+    let Terrain { rows, cols, codes, accumulation } = terrain;
+    assert!(codes.len() >= rows * cols && accumulation.len() >= rows * cols);
+    unsafe { c::plain_equation(rows, cols, codes.as_ptr(), accumulation.as_ptr()) }
+}
+
+pub fn subaccumulate(
+    terrain: Terrain,
+    outlets: &[u32],
+    subaccumulation: &mut [u32],
+    marks: &mut [u8],
+) -> u32 {
+    let Terrain { rows, cols, codes, accumulation } = terrain;
+    let cells = rows * cols;
+    assert!(codes.len() >= cells && accumulation.len() >= cells);
+    assert!(subaccumulation.len() >= cells && marks.len() >= cells);
+    assert!(outlets.iter().all(|&outlet| (outlet as usize) < cells));
+    unsafe {
+        c::plain_subaccumulate(
+            rows,
+            cols,
+            codes.as_ptr(),
+            accumulation.as_ptr(),
+            outlets.as_ptr(),
+            outlets.len(),
+            subaccumulation.as_mut_ptr(),
+            marks.as_mut_ptr(),
+        )
+    }
+}
+
+/// Straight, diagonal, paths, visited and dropped.
+#[allow(clippy::too_many_arguments)]
+pub fn search(
+    terrain: Terrain,
+    subaccumulation: &[u32],
+    marks: &[u8],
+    outlet: u32,
+    dropping: bool,
+    starts: &mut [u32],
+    work: &mut [u32],
+) -> [u32; 5] {
+    let Terrain { rows, cols, codes, .. } = terrain;
+    let cells = rows * cols;
+    assert!(codes.len() >= cells && subaccumulation.len() >= cells && marks.len() >= cells);
+    assert!((outlet as usize) < cells && work.len() >= 3 * cells);
+    let found = unsafe {
+        c::plain_search(
+            rows,
+            cols,
+            codes.as_ptr(),
+            subaccumulation.as_ptr(),
+            marks.as_ptr(),
+            outlet,
+            dropping.into(),
+            starts.as_mut_ptr(),
+            starts.len(),
+            work.as_mut_ptr(),
+        )
+    };
+    [found.straight, found.diagonal, found.paths, found.visited, found.dropped]
+}
+
+/// How many cells were drawn.
+pub fn draw(terrain: Terrain, outlet: u32, start: u32, places: &mut [u32]) -> usize {
+    let Terrain { rows, cols, codes, .. } = terrain;
+    assert!(codes.len() >= rows * cols && places.len() >= rows * cols);
+    unsafe { c::plain_draw(rows, cols, codes.as_ptr(), outlet, start, places.as_mut_ptr()) }
+}

@@ -1,0 +1,208 @@
+//! Memory and stack that the calls take.
+
+use std::env;
+use std::process::Command;
+
+use second_reading::entries::{self, Terrain};
+
+use crate::grounds::{comb, serpent};
+use crate::measure::{peak, stack};
+use crate::tables::{grouped, table};
+use crate::trials::{accepted, largest, LIST, MOST_BY_RECURSION};
+use crate::{host, plain};
+
+/// The side of the comb on which memory is measured.
+const SIDE: usize = 4096;
+
+const WORKS: [&str; 5] = ["accumulate", "check 14", "subaccumulate", "trace by stack", "draw"];
+
+const WHO: [&str; 3] = ["library", "plain C", "Rust"];
+
+/// What one process lends, and how much memory it has in use at most when it makes the call alone.
+/// The Rust implementation does not trace here: it would walk for minutes.
+pub struct Memory(Vec<Vec<String>>);
+
+impl Memory {
+    pub fn print(&self) {
+        println!("### Memory, comb of 4,096², MiB\n");
+        let heads = ["work", "library lent", "peak", "C lent", "peak", "Rust lent", "peak"];
+        table(1, &heads, &self.0);
+    }
+}
+
+/// To be called while this process is small: another starts with the memory of the one that starts
+/// it.
+pub fn memory() -> Memory {
+    let mut rows = Vec::new();
+    for work in WORKS {
+        let mut row = vec![work.to_string()];
+        for who in WHO {
+            if (who, work) == ("Rust", "trace by stack") {
+                row.extend(["–".to_string(), "–".to_string()]);
+                continue;
+            }
+            let program = env::current_exe().expect("this program");
+            let output = Command::new(program).args(["memory", who, work]).output();
+            let output = output.expect("a process starts");
+            assert!(output.status.success(), "{who}, {work}: {output:?}");
+            let text = String::from_utf8(output.stdout).expect("two numbers");
+            row.extend(text.split_whitespace().map(str::to_string));
+        }
+        rows.push(row);
+    }
+    Memory(rows)
+}
+
+/// The call of one process: prints the MiB lent and the peak.
+pub fn memory_of(who: &str, work: &str) {
+    let field = comb(SIDE);
+    let cells = field.cells();
+    let grid = || vec![1u32; cells];
+    let mut accumulation = grid();
+    let mut lent = 5 * cells;
+    if work != "accumulate" {
+        accepted(host::accumulate(SIDE, SIDE, &field.codes, &mut accumulation));
+    }
+    let outlets = [(SIDE * (SIDE - 1) + SIDE / 2) as u32];
+    let codes = &field.codes[..];
+    match (who, work) {
+        ("library", "accumulate") => {
+            accepted(host::accumulate(SIDE, SIDE, codes, &mut accumulation));
+        }
+        ("plain C", "accumulate") => {
+            accepted(plain::look_around(SIDE, SIDE, codes, &mut accumulation));
+        }
+        ("Rust", "accumulate") => {
+            assert!(entries::accumulate(SIDE, SIDE, codes, &mut accumulation).is_ok());
+        }
+        _ => {
+            let terrain = Terrain { rows: SIDE, cols: SIDE, codes, accumulation: &accumulation };
+            lent += match (who, work) {
+                ("library", "check 14") => {
+                    accepted(host::check_accumulation(terrain));
+                    0
+                }
+                ("plain C", "check 14") => {
+                    accepted(plain::equation(terrain));
+                    0
+                }
+                ("Rust", "check 14") => {
+                    assert!(entries::check_accumulation(terrain).is_ok());
+                    0
+                }
+                ("library", "subaccumulate") => {
+                    accepted(host::subaccumulate(terrain, &outlets, &mut grid()));
+                    4 * cells
+                }
+                ("plain C", "subaccumulate") => {
+                    let mut marks = vec![1; cells];
+                    accepted(plain::subaccumulate(terrain, &outlets, &mut grid(), &mut marks));
+                    5 * cells
+                }
+                ("Rust", "subaccumulate") => {
+                    assert!(entries::subaccumulate(terrain, &outlets, &mut grid()).is_ok());
+                    4 * cells
+                }
+                ("library", "trace by stack") => {
+                    let (mut starts, mut work) = (vec![1; LIST], vec![1; 3 * cells]);
+                    let (grid, starts) = (&mut grid()[..], &mut starts[..]);
+                    let (number, _) =
+                        host::trace_by_stack(terrain, &outlets, 0, false, grid, starts, &mut work);
+                    accepted(number);
+                    16 * cells + 4 * LIST
+                }
+                ("plain C", "trace by stack") => {
+                    let (mut starts, mut work) = (vec![1; LIST], vec![1; 3 * cells]);
+                    let (mut grid, mut marks) = (grid(), vec![1; cells]);
+                    accepted(plain::subaccumulate(terrain, &outlets, &mut grid, &mut marks));
+                    plain::search(
+                        terrain,
+                        &grid,
+                        &marks,
+                        outlets[0],
+                        false,
+                        &mut starts,
+                        &mut work,
+                    );
+                    17 * cells + 4 * LIST
+                }
+                ("library", "draw") => {
+                    accepted(host::draw(terrain, &outlets, 0, 0, &mut grid()).0);
+                    4 * cells
+                }
+                ("plain C", "draw") => {
+                    accepted(plain::equation(terrain));
+                    assert!(plain::draw(terrain, outlets[0], 0, &mut grid()) > 0);
+                    4 * cells
+                }
+                ("Rust", "draw") => {
+                    assert!(entries::draw(terrain, &outlets, 0, 0, &mut grid()).is_ok());
+                    4 * cells
+                }
+                _ => panic!("no such call"),
+            };
+        }
+    }
+    println!("{} {}", lent >> 20, peak() >> 20);
+}
+
+/// The stack that each call takes on a serpent, its outlet the lowest cell that has 4,096 at most.
+pub fn stacks() {
+    println!("### Stack, serpent, bytes\n");
+    let mut columns = Vec::new();
+    for side in [64, 1024] {
+        columns.push(stacks_of(side));
+    }
+    let rows: Vec<Vec<String>> = (0..columns[0].len())
+        .map(|row| {
+            let (work, bytes) = columns[0][row];
+            let more = columns[1][row].1;
+            vec![work.to_string(), grouped(bytes), grouped(more)]
+        })
+        .collect();
+    table(1, &["call of the library", "64²", "1,024²"], &rows);
+    let recursion = columns[0].last().expect("a row").1;
+    println!(
+        "Recursion takes {} bytes for each of {} cells of one walk.\n",
+        recursion / MOST_BY_RECURSION as usize,
+        grouped(MOST_BY_RECURSION as usize)
+    );
+}
+
+fn stacks_of(side: usize) -> Vec<(&'static str, usize)> {
+    let field = serpent(side);
+    let cells = field.cells();
+    let mut accumulation = vec![1; cells];
+    let accumulate = stack(|| {
+        accepted(host::accumulate(side, side, &field.codes, &mut accumulation));
+    });
+    let codes = &field.codes[..];
+    let terrain = Terrain { rows: side, cols: side, codes, accumulation: &accumulation };
+    let outlets = [largest(&accumulation, MOST_BY_RECURSION)];
+    let (mut grid, mut starts, mut work) = (vec![1; cells], [1; LIST], vec![1; 3 * cells]);
+    let mut measured = vec![
+        ("accumulate", accumulate),
+        ("check 14", stack(|| accepted(host::check_accumulation(terrain)))),
+        ("subaccumulate", stack(|| accepted(host::subaccumulate(terrain, &outlets, &mut grid)))),
+        ("draw", stack(|| accepted(host::draw(terrain, &outlets, 0, 0, &mut work).0))),
+    ];
+    for (name, dropping) in [("trace by stack", false), ("trace by stack, dropping", true)] {
+        let bytes = stack(|| {
+            let (grid, starts) = (&mut grid, &mut starts);
+            let traced =
+                host::trace_by_stack(terrain, &outlets, 0, dropping, grid, starts, &mut work);
+            accepted(traced.0);
+        });
+        measured.push((name, bytes));
+    }
+    for (name, dropping) in [("trace by recursion", false), ("trace by recursion, dropping", true)]
+    {
+        let bytes = stack(|| {
+            let (grid, starts) = (&mut grid, &mut starts);
+            let traced = host::trace_by_recursion(terrain, &outlets, 0, dropping, grid, starts);
+            accepted(traced.0);
+        });
+        measured.push((name, bytes));
+    }
+    measured
+}

@@ -1,0 +1,61 @@
+/* The longest path on a ground of one row, from C: 0 flows east to 1, 3 west to 2 and on to 1, and 1 off to the south. */
+#include "jinxbanyan.h"
+
+#include <stdio.h>
+#include <stdlib.h>
+
+enum { ROWS = 1, COLS = 4, CELLS = ROWS * COLS };
+
+static void print(const char *name, const uint32_t *numbers, size_t count) {
+    printf("%s", name);
+    for (size_t i = 0; i < count; i++) printf(" %u", (unsigned)numbers[i]);
+    printf("\n");
+}
+
+/* Each function answers with a number; 0 is acceptance. */
+static void expect_accepted(const char *what, uint32_t number) {
+    if (number == 0) return;
+    printf("%s refused %u\n", what, (unsigned)number);
+    exit(1);
+}
+
+int main(void) {
+    const uint8_t codes[CELLS] = {1, 4, 16, 16};
+    const uint32_t outlets[1] = {1};
+    const size_t place = 0;
+    uint32_t accumulation[CELLS], subaccumulation[CELLS];
+
+    expect_accepted("accumulate", jb_accumulate(ROWS, COLS, codes, CELLS, accumulation, CELLS));
+    print("accumulation", accumulation, CELLS);
+    expect_accepted("check", jb_check_accumulation(ROWS, COLS, codes, CELLS, accumulation, CELLS));
+    expect_accepted("subaccumulate", jb_subaccumulate(ROWS, COLS, codes, CELLS, accumulation, CELLS, outlets, 1,
+                                                      subaccumulation, CELLS));
+
+    /* No outlet has more starts than cells; the working space takes three numbers for each cell. */
+    uint32_t starts[CELLS], work[3 * CELLS], results[5];
+    expect_accepted("trace by stack", jb_trace_by_stack(ROWS, COLS, codes, CELLS, accumulation, CELLS, outlets, 1, place,
+                                                        1, subaccumulation, CELLS, starts, CELLS, work, 3 * CELLS,
+                                                        results));
+    printf("cells %u straight %u diagonal %u paths %u visited %u dropped %u\n",
+           (unsigned)subaccumulation[outlets[place]], (unsigned)results[0], (unsigned)results[1], (unsigned)results[2],
+           (unsigned)results[3], (unsigned)results[4]);
+    print("starts", starts, results[2]);
+
+    uint32_t starts_again[CELLS], results_again[5];
+    expect_accepted("trace by recursion", jb_trace_by_recursion(ROWS, COLS, codes, CELLS, accumulation, CELLS, outlets,
+                                                                1, place, 1, subaccumulation, CELLS, starts_again,
+                                                                CELLS, results_again));
+    print("by recursion", starts_again, results_again[2]);
+
+    /* A path has a cell more than steps. */
+    uint32_t path[CELLS], drawn[1];
+    expect_accepted("draw", jb_draw(ROWS, COLS, codes, CELLS, accumulation, CELLS, outlets, 1, place, starts[0], path,
+                                    CELLS, drawn));
+    print("path", path, drawn[0]);
+
+    /* A refusal: the same ground with an accumulation that does not agree. */
+    accumulation[3] = 2;
+    uint32_t number = jb_check_accumulation(ROWS, COLS, codes, CELLS, accumulation, CELLS);
+    printf("changed accumulation %u\n", (unsigned)number);
+    return number == 14 ? 0 : 1;
+}
