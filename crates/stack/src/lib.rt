@@ -180,6 +180,37 @@ fn enter_cell(
     }
 }
 
+// The outlet is entered. That is done once, and apart from other cells: enter_cell then has one caller, and the compiler
+// makes one loop of the whole search.
+fn enter_outlet(
+    rows: usize,
+    cols: usize,
+    codes: &[u8],
+    outlets: &[u32],
+    subs: &[u32],
+    row: usize,
+    col: usize,
+    len: Length,
+    end: usize,
+    p: Progress,
+    top: usize,
+    work: &mut [u32],
+) -> Stack
+    requires { ⌜ Ready rows cols (now codes) (now outlets) (now subs) ⌝ }
+    requires { ⌜ OnGround rows cols (now codes) row col ⌝ }
+    requires { ⌜ Fits (subaccumulation (gridOf rows cols (now codes)) (now outlets) (row * cols + col)) end p top (now work) ⌝ }
+    ensures { λ r. ⌜ Entered (gridOf rows cols (now (codes .entry))) (now (outlets .entry)) (row * cols + col) len end p top (now (work .entry)) r (now (work .exit)) ⌝ }
+{
+    let at = row * cols + col;
+    let n = subs[at];
+    let visited = visit(work, end, at as u32, n, len, p);
+    let first = put_inflows(rows, cols, codes, outlets, row, col, len, top, work);
+    Stack {
+        progress: visited,
+        top: first,
+    }
+}
+
 // The step down from a cell of this code.
 fn step_of(code: u8) -> Step
     ensures { λ r. ⌜ r ≡ stepBy (leadOf code) ⌝ }
@@ -263,7 +294,7 @@ pub fn trace(
         straight: 0,
         diagonal: 0,
     };
-    let mut s = enter_cell(
+    let mut s = enter_outlet(
         rows,
         cols,
         codes,

@@ -61,8 +61,8 @@ mul-end c = omega (arith, end-is c, small-cells (start c .pre .0) (start c .pre 
 begin-requires : tie.Need-begin-requires Inv-loop μ-loop
 begin-requires c κs = search needs
 
-enter-cell-requires : tie.Need-enter-cell-requires Inv-loop μ-loop
-enter-cell-requires c κs =
+enter-outlet-requires : tie.Need-enter-outlet-requires Inv-loop μ-loop
+enter-outlet-requires c κs =
     let i = c .before .before in
     let s = start i in (
       s .pre .0,
@@ -77,7 +77,7 @@ loop-holds : tie.Need-loop-holds Inv-loop μ-loop
 loop-holds c =
     let i = c .before .before .before .before .before in
     let s = start i in
-    let e = c .before .before .enter-cell in (
+    let e = c .before .before .enter-outlet in (
       refl,
       outlet-stands (s .pre .0) (s .pre .1 .0) (end-is i) (c .before .before .before .before .begin .ensures) (e .ensures)
           (omega (arith, end-is i, s .pre .1 .1, e .kept .1 .1 .1 .1 .1 .1 .1 .1 .1 .1 .1 .0)),
@@ -107,12 +107,12 @@ loop-again c =
 
 same-length : tie.Need-same-length Inv-loop μ-loop
 same-length c = c .before .before .before .loop .inv .0
-    ∙ c .before .before .before .before .before .before .enter-cell .kept .1 .1 .1 .1 .1 .1 .1 .1 .1 .1 .1 .0
+    ∙ c .before .before .before .before .before .before .enter-outlet .kept .1 .1 .1 .1 .1 .1 .1 .1 .1 .1 .1 .0
 
 returns : tie.Need-returns Inv-loop μ-loop
 returns c =
     let l = c .before .before .before .loop in
-    let e = c .before .before .before .before .before .before .enter-cell in
+    let e = c .before .before .before .before .before .before .enter-outlet in
     let i = c .before .before .before .before .before .before .before .before .before in
     let s = start i in
     traced (s .pre .0) (s .pre .1 .0) (end-is i) (s .args .dropping) (s .args .work .now) (l .inv .1) (omega arith)
@@ -133,7 +133,7 @@ trace-spec =
     index-of-requires
     mul-end
     begin-requires
-    enter-cell-requires
+    enter-outlet-requires
     loop-holds
     turn-requires
     loop-less
