@@ -2,6 +2,7 @@
 #include "measure.h"
 
 #include <pthread.h>
+#include <signal.h>
 #include <stdint.h>
 #include <stdio.h>
 #include <stdlib.h>
@@ -10,6 +11,7 @@
 #include <sys/resource.h>
 #include <time.h>
 
+#define PAGE 4096
 #define PAINT 0xA5
 
 double cpu_seconds(void) {
@@ -17,6 +19,39 @@ double cpu_seconds(void) {
     clock_gettime(CLOCK_PROCESS_CPUTIME_ID, &now);
     return (double)now.tv_sec + (double)now.tv_nsec * 1e-9;
 }
+
+static uint8_t *watched;
+static volatile double touched;
+static struct sigaction before;
+
+static void touch(int number, siginfo_t *info, void *context) {
+    (void)number;
+    (void)context;
+    uint8_t *at = info->si_addr;
+    if (watched != NULL && at >= watched && at < watched + PAGE) {
+        mprotect(watched, PAGE, PROT_READ | PROT_WRITE);
+        touched = cpu_seconds();
+    } else {
+        sigaction(SIGSEGV, &before, NULL);
+    }
+}
+
+void watch(void *page) {
+    if (watched == NULL) {
+        struct sigaction action = {0};
+        action.sa_sigaction = touch;
+        action.sa_flags = SA_SIGINFO | SA_ONSTACK;
+        sigaction(SIGSEGV, &action, &before);
+    }
+    watched = page;
+    touched = 0;
+    if (mprotect(page, PAGE, PROT_NONE) != 0) {
+        perror("mprotect");
+        exit(1);
+    }
+}
+
+double touched_at(void) { return touched; }
 
 size_t peak_kib(void) {
     struct rusage usage;

@@ -7,6 +7,12 @@
 /* The CPU time that this process has taken. */
 double cpu_seconds(void);
 
+/* Bars a page of memory, given by its first byte, until it is first touched. */
+void watch(void *page);
+
+/* The CPU time at which the page was touched, 0 if it was not. */
+double touched_at(void);
+
 /* The most memory that this process has had in use, in KiB. */
 size_t peak_kib(void);
 

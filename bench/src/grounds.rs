@@ -8,7 +8,7 @@ pub struct Field {
     pub codes: Vec<u8>,
 }
 
-type Kind = (&'static str, fn(usize) -> Field);
+pub type Kind = (&'static str, fn(usize) -> Field);
 
 pub const KINDS: [Kind; 4] =
     [("fractal", fractal), ("comb", comb), ("serpent", serpent), ("nulls", nulls)];

@@ -2,7 +2,8 @@
 //! tables in Markdown.
 //!
 //! * `bench` measures everything;
-//! * `bench quick` leaves the largest grids out.
+//! * `bench quick` leaves the largest grids out;
+//! * `bench aims` measures only what is aimed at: large fractal ground, without Rust, more often.
 
 mod grounds;
 mod host;
@@ -17,6 +18,7 @@ use std::fs;
 use std::process::ExitCode;
 use std::thread;
 
+use grounds::Kind;
 use measure::{Best, Clock};
 use tables::Size;
 use trials::Runs;
@@ -34,41 +36,36 @@ const STACK: usize = 512 << 20;
 fn main() -> ExitCode {
     let arguments: Vec<String> = env::args().skip(1).collect();
     let arguments: Vec<&str> = arguments.iter().map(String::as_str).collect();
-    let sizes = match arguments[..] {
-        [] => 3,
-        ["quick"] => 2,
+    let work: fn() = match arguments[..] {
+        [] => || bench(&SIZES),
+        ["quick"] => || bench(&SIZES[..2]),
+        ["aims"] => aims,
         ["memory", who, work] => {
             room::memory_of(who, work);
             return ExitCode::SUCCESS;
         }
         _ => {
-            eprintln!("use: bench [quick]");
+            eprintln!("use: bench [quick | aims]");
             return ExitCode::from(2);
         }
     };
-    let worker = thread::Builder::new().stack_size(STACK).spawn(move || bench(sizes));
+    let worker = thread::Builder::new().stack_size(STACK).spawn(work);
     match worker.expect("a thread starts").join() {
         Ok(()) => ExitCode::SUCCESS,
         Err(_) => ExitCode::from(1),
     }
 }
 
-fn bench(sizes: usize) {
-    machine();
+fn bench(sizes: &[(usize, Runs)]) {
+    machine(sizes);
     let memory = room::memory();
     let mut clock = Clock::default();
-    let mut measured = Vec::new();
-    for (side, runs) in SIZES.into_iter().take(sizes) {
-        let sets = trials::Sets::new(side * side);
-        let mut grounds = Vec::new();
-        for (kind, make) in grounds::KINDS {
-            eprintln!("{kind} {side}");
-            grounds.push(trials::trial(&make(side), runs, &sets, &mut clock));
-        }
-        measured.push(Size { name: format!("{}²", tables::grouped(side)), grounds });
-    }
+    let measured: Vec<Size> =
+        sizes.iter().map(|&size| measure(size, &grounds::KINDS, &mut clock)).collect();
     let largest = measured.last().expect("a size");
-    tables::aims(largest);
+    if sizes.len() == SIZES.len() {
+        tables::aims(largest);
+    }
     measured.iter().rev().for_each(tables::ratios);
     tables::growth(&measured);
     tables::times(largest);
@@ -77,8 +74,26 @@ fn bench(sizes: usize) {
     noise(&clock.bests);
 }
 
+fn aims() {
+    let size = (4096, Runs { quick: 15, rust: 0 });
+    machine(&[size]);
+    let mut clock = Clock::default();
+    tables::aims(&measure(size, &grounds::KINDS[..1], &mut clock));
+    noise(&clock.bests);
+}
+
+fn measure((side, runs): (usize, Runs), kinds: &[Kind], clock: &mut Clock) -> Size {
+    let sets = trials::Sets::new(side * side);
+    let mut grounds = Vec::new();
+    for (kind, make) in kinds {
+        eprintln!("{kind} {side}");
+        grounds.push(trials::trial(&make(side), runs, &sets, clock));
+    }
+    Size { name: format!("{}²", tables::grouped(side)), grounds }
+}
+
 /// The machine, the compilers, and what is lent.
-fn machine() {
+fn machine(sizes: &[(usize, Runs)]) {
     let processor = fs::read_to_string("/proc/cpuinfo").unwrap_or_default();
     let processor = processor.lines().find_map(|line| line.strip_prefix("model name"));
     let processor = processor.map_or("unknown", |name| name.trim_start_matches([' ', '\t', ':']));
@@ -86,24 +101,23 @@ fn machine() {
     let cores = thread::available_parallelism().map_or(0, usize::from);
     println!("- Machine: {processor}, {cores} cores, load before the run {}", one_minute(&load));
     println!("- C: {}; Rust: {}, release", env!("GCC"), env!("RUSTC"));
-    let runs = SIZES.map(|(side, Runs { quick, rust })| {
-        format!("{quick} ({rust} of the Rust implementation) at {}²", tables::grouped(side))
+    let runs = sizes.iter().map(|&(side, Runs { quick, rust })| {
+        format!("{quick} ({rust} in Rust) at {}²", tables::grouped(side))
     });
-    println!("- Times are CPU time of the process, the best of {}", runs.join(", "));
-    println!(
-        "- Search and path stand for the time of a whole call less that of one refused after its \
-         checks; ~ where noise may hide it"
-    );
+    let runs: Vec<String> = runs.collect();
+    println!("- Times: CPU time of the process, the best of {}", runs.join(", "));
     println!(
         "- Lent: grids of R × C places, a list of {} starts, working space of 3 × R × C numbers, \
          R × C places to draw in; all written before",
         tables::grouped(trials::LIST)
     );
     println!(
-        "- The Rust implementation walks from every cell: it traces where that is at most {} \
-         steps, and where it is many only once, with dropping\n",
-        tables::grouped(trials::MOST_STEPS as usize)
+        "- Rust: traces where all its walks together have at most {} steps, and only once, with \
+         dropping, where they have more than {}",
+        tables::grouped(trials::MOST_STEPS as usize),
+        tables::grouped(trials::MANY_STEPS as usize)
     );
+    println!("- ~ stands where noise may hide a figure, – where there is none\n");
 }
 
 fn one_minute(load: &str) -> &str {
@@ -116,8 +130,8 @@ fn noise(bests: &[Best]) {
         list.sort_by(f64::total_cmp);
         (list[list.len() / 2], list[list.len() * 9 / 10])
     };
-    let spread = bests.iter().filter_map(|best| Some(best.spread? / best.cpu)).collect();
-    let wall = bests.iter().map(|best| best.wall / best.cpu - 1.0).collect();
+    let spread = bests.iter().filter_map(|best| Some(best.spread? / best.taken.cpu)).collect();
+    let wall = bests.iter().map(|best| (best.taken.wall / best.taken.cpu - 1.0).max(0.0)).collect();
     let (spread, wall) = (middle(spread), middle(wall));
     println!(
         "Noise: the second best lies {:.1} % above the best in half of the measurements, {:.1} % \

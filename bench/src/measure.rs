@@ -8,6 +8,8 @@ mod c {
 
     extern "C" {
         pub fn cpu_seconds() -> f64;
+        pub fn watch(page: *mut c_void);
+        pub fn touched_at() -> f64;
         pub fn peak_kib() -> usize;
         pub fn stack_reached(
             call: extern "C" fn(*mut c_void),
@@ -20,11 +22,42 @@ mod c {
 /// A sample lasts at least so many seconds: short calls are made several times.
 const SAMPLE: f64 = 0.003;
 
-/// The best of several samples, in seconds for each call.
+/// What one call took, in seconds.
 #[derive(Clone, Copy)]
-pub struct Best {
+pub struct Taken {
     pub cpu: f64,
     pub wall: f64,
+    /// The CPU time from the first touch of a watched page on; 0 if none was watched.
+    pub part: f64,
+}
+
+/// Bytes of a page.
+pub const PAGE: usize = 4096;
+
+/// The CPU time of a call, and that from its first touch of a page on.
+pub fn watching(page: *mut u32, call: impl FnOnce()) -> Taken {
+    assert_eq!(page.align_offset(PAGE), 0);
+    // SAFETY: the page is given free again at its first touch, at the latest below.
+    unsafe { c::watch(page.cast()) };
+    let taken = timed(call);
+    let end = unsafe { c::cpu_seconds() };
+    let touched = unsafe { c::touched_at() };
+    assert!(touched > 0.0, "the page is touched");
+    Taken { part: end - touched, ..taken }
+}
+
+pub fn timed(call: impl FnOnce()) -> Taken {
+    let (cpu, wall) = (unsafe { c::cpu_seconds() }, Instant::now());
+    call();
+    let wall = wall.elapsed().as_secs_f64();
+    let cpu = unsafe { c::cpu_seconds() } - cpu;
+    Taken { cpu, wall, part: 0.0 }
+}
+
+/// The best of several samples, for each call.
+#[derive(Clone, Copy)]
+pub struct Best {
+    pub taken: Taken,
     /// The CPU time by which the second best is worse; none for a single sample.
     pub spread: Option<f64>,
 }
@@ -32,24 +65,38 @@ pub struct Best {
 /// One of several that do the same work.
 pub struct Contestant<'a> {
     runs: usize,
-    call: Box<dyn FnMut() + 'a>,
+    call: Box<dyn FnMut(u32) -> Taken + 'a>,
     repeats: Option<u32>,
-    samples: Vec<(f64, f64)>,
+    samples: Vec<Taken>,
 }
 
 impl<'a> Contestant<'a> {
-    pub fn new(runs: usize, call: impl FnMut() + 'a) -> Self {
+    /// One whose call is timed.
+    pub fn new(runs: usize, mut call: impl FnMut() + 'a) -> Self {
+        Contestant::timing(runs, move |repeats| timed(|| (0..repeats).for_each(|_| call())))
+    }
+
+    /// One whose call times itself.
+    pub fn timing_itself(runs: usize, mut call: impl FnMut() -> Taken + 'a) -> Self {
+        Contestant::timing(runs, move |repeats| {
+            let all = (0..repeats).map(|_| call());
+            all.reduce(|sum, taken| Taken {
+                cpu: sum.cpu + taken.cpu,
+                wall: sum.wall + taken.wall,
+                part: sum.part + taken.part,
+            })
+            .expect("a call")
+        })
+    }
+
+    fn timing(runs: usize, call: impl FnMut(u32) -> Taken + 'a) -> Self {
         Contestant { runs, call: Box::new(call), repeats: None, samples: Vec::new() }
     }
 
-    fn sample(&mut self, repeats: u32) -> (f64, f64) {
-        let (cpu, wall) = (unsafe { c::cpu_seconds() }, Instant::now());
-        for _ in 0..repeats {
-            (self.call)();
-        }
-        let wall = wall.elapsed().as_secs_f64();
-        let cpu = unsafe { c::cpu_seconds() } - cpu;
-        (cpu / f64::from(repeats), wall / f64::from(repeats))
+    fn sample(&mut self, repeats: u32) -> Taken {
+        let Taken { cpu, wall, part } = (self.call)(repeats);
+        let count = f64::from(repeats);
+        Taken { cpu: cpu / count, wall: wall / count, part: part / count }
     }
 
     /// The first call tells how many make a sample.
@@ -58,7 +105,7 @@ impl<'a> Contestant<'a> {
             Some(repeats) => repeats,
             None => {
                 let first = self.sample(1);
-                let repeats = (SAMPLE / first.0.max(1e-8)).ceil() as u32;
+                let repeats = (SAMPLE / first.cpu.max(1e-8)).ceil() as u32;
                 self.repeats = Some(repeats);
                 if repeats == 1 {
                     self.samples.push(first);
@@ -72,11 +119,16 @@ impl<'a> Contestant<'a> {
     }
 
     fn best(&self) -> Option<Best> {
-        let mut cpu: Vec<f64> = self.samples.iter().map(|sample| sample.0).collect();
-        cpu.sort_by(f64::total_cmp);
-        let wall = self.samples.iter().map(|sample| sample.1).fold(f64::MAX, f64::min);
+        let best = |of: fn(&Taken) -> f64| {
+            let mut times: Vec<f64> = self.samples.iter().map(of).collect();
+            times.sort_by(f64::total_cmp);
+            times
+        };
+        let cpu = best(|taken| taken.cpu);
         let spread = cpu.get(1).map(|second| second - cpu[0]);
-        Some(Best { cpu: *cpu.first()?, wall, spread })
+        let cpu = *cpu.first()?;
+        let (wall, part) = (best(|taken| taken.wall)[0], best(|taken| taken.part)[0]);
+        Some(Best { taken: Taken { cpu, wall, part }, spread })
     }
 }
 

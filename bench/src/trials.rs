@@ -5,7 +5,7 @@ use std::cell::{Cell, RefCell};
 use second_reading::entries::{self, Terrain};
 
 use crate::grounds::{Field, Random};
-use crate::measure::{Best, Clock, Contestant};
+use crate::measure::{timed, watching, Best, Clock, Contestant, PAGE};
 use crate::{host, plain};
 
 /// The places of the list that tracing lends.
@@ -18,7 +18,7 @@ pub const MOST_BY_RECURSION: u32 = 4096;
 pub const MOST_STEPS: u64 = 4_000_000_000;
 
 /// Above so many steps it does so once, with dropping.
-const MANY_STEPS: u64 = 20_000_000;
+pub const MANY_STEPS: u64 = 20_000_000;
 
 pub struct Row {
     pub work: &'static str,
@@ -73,9 +73,26 @@ pub struct Lent {
     accumulation: Vec<u32>,
     subaccumulation: Vec<u32>,
     starts: Vec<u32>,
-    work: Vec<u32>,
+    work: Paged,
     places: Vec<u32>,
     bytes: Vec<u8>,
+}
+
+/// Numbers that begin a page of memory, in which nothing else stands.
+struct Paged {
+    store: Vec<u32>,
+    count: usize,
+}
+
+impl Paged {
+    fn new(count: usize) -> Self {
+        Paged { store: vec![1; count + 2 * PAGE / size_of::<u32>()], count }
+    }
+
+    fn all(&mut self) -> &mut [u32] {
+        let first = self.store.as_ptr().align_offset(PAGE);
+        &mut self.store[first..first + self.count]
+    }
 }
 
 impl Lent {
@@ -84,7 +101,7 @@ impl Lent {
             accumulation: vec![1; cells],
             subaccumulation: vec![1; cells],
             starts: vec![1; LIST],
-            work: vec![1; 3 * cells],
+            work: Paged::new(3 * cells),
             places: vec![1; cells],
             bytes: vec![1; cells],
         })
@@ -103,10 +120,10 @@ impl Sets {
         Sets { library: Lent::new(cells), plain: Lent::new(cells), rust: Lent::new(cells) }
     }
 
-    fn all_alike<T: PartialEq>(&self, part: impl Fn(&Lent) -> &[T]) -> bool {
-        let (library, plain, rust) =
-            (self.library.borrow(), self.plain.borrow(), self.rust.borrow());
-        part(&library) == part(&plain) && part(&library) == part(&rust)
+    /// Whether all hold the same there; the Rust implementation only if it ran.
+    fn all_alike(&self, rust: Option<Best>, part: impl Fn(&Lent) -> &[u32]) -> bool {
+        let same = |other: &RefCell<Lent>| part(&self.library.borrow()) == part(&other.borrow());
+        same(&self.plain) && (rust.is_none() || same(&self.rust))
     }
 }
 
@@ -158,10 +175,8 @@ pub fn trial(field: &Field, runs: Runs, sets: &Sets, clock: &mut Clock) -> Vec<F
     let plain_fill = one.plain;
     figures.extend([one, many]);
     let steps = accumulation.iter().map(|&n| u64::from(n)).sum();
-    // One time is taken from another there: that wants more runs.
-    let more = Runs { quick: runs.quick + 2, ..runs };
     let (traced, start) =
-        tracing(Engine::Stack, terrain, outlet, plain_fill, steps, more, sets, clock);
+        tracing(Engine::Stack, terrain, outlet, plain_fill, steps, runs, sets, clock);
     figures.extend(traced);
     figures.extend(recursion(field, &accumulation, runs, clock));
     figures.extend(drawing(terrain, outlet, start, equation, runs, sets, clock));
@@ -170,27 +185,33 @@ pub fn trial(field: &Field, runs: Runs, sets: &Sets, clock: &mut Clock) -> Vec<F
 }
 
 fn time(best: Option<Best>) -> f64 {
-    best.expect("a time").cpu
+    best.expect("a time").taken.cpu
 }
 
 fn whole(library: Option<Best>, plain: f64, rust: Option<Best>, units: usize) -> Figure {
-    let best = library.expect("a time");
+    let taken = library.expect("a time").taken;
     Figure {
-        library: best.cpu,
-        wall: Some(best.wall),
+        library: taken.cpu,
+        wall: Some(taken.wall),
         sure: true,
         plain,
-        rust: rust.map(|best| best.cpu),
+        rust: rust.map(|best| best.taken.cpu),
         units: units as f64,
     }
+}
+
+/// What a call takes from the first touch of its working space on.
+fn touching(library: Option<Best>, plain: f64, units: usize) -> Figure {
+    let library = library.expect("a time").taken.part;
+    Figure { library, wall: None, sure: true, plain, rust: None, units: units as f64 }
 }
 
 /// What a whole call takes more than one refused after its checks.
 fn apart(whole: Option<Best>, refused: Option<Best>, plain: f64, units: usize) -> Figure {
     let (whole, refused) = (whole.expect("a time"), refused.expect("a time"));
-    let library = whole.cpu - refused.cpu;
+    let library = whole.taken.cpu - refused.taken.cpu;
     let noise = whole.spread.unwrap_or(0.0) + refused.spread.unwrap_or(0.0);
-    let sure = library > 4.0 * noise && library > 0.05 * whole.cpu;
+    let sure = library > 4.0 * noise && library > 0.05 * whole.taken.cpu;
     Figure { library, wall: None, sure, plain, rust: None, units: units as f64 }
 }
 
@@ -216,7 +237,7 @@ fn accumulating(field: &Field, runs: Runs, sets: &Sets, clock: &mut Clock) -> Ve
         }),
     ]);
     let cells = field.cells();
-    assert!(sets.all_alike(|lent| &lent.accumulation[..cells]));
+    assert!(sets.all_alike(times[3], |lent| &lent.accumulation[..cells]));
     vec![
         whole(times[0], time(times[1]), times[3], cells),
         whole(times[0], time(times[2]), None, cells),
@@ -257,7 +278,7 @@ fn subaccumulating(
         }),
     ]);
     let cells = terrain.codes.len();
-    assert!(sets.all_alike(|lent| &lent.subaccumulation[..cells]));
+    assert!(sets.all_alike(times[2], |lent| &lent.subaccumulation[..cells]));
     whole(times[0], time(times[1]), times[2], cells)
 }
 
@@ -280,26 +301,31 @@ fn tracing(
     clock: &mut Clock,
 ) -> (Vec<Figure>, u32) {
     let outlets = [outlet];
-    let rust_runs = match steps {
-        0..=MANY_STEPS => [runs.rust, runs.rust],
-        0..=MOST_STEPS => [0, 1],
-        _ => [0, 0],
+    let rust_runs = if steps <= MANY_STEPS {
+        [runs.rust, runs.rust]
+    } else {
+        [0, usize::from(steps <= MOST_STEPS && runs.rust > 0)]
     };
     let library = |dropping: bool, found: &Cell<[u32; 5]>| {
         let Lent { subaccumulation, starts, work, .. } = &mut *sets.library.borrow_mut();
-        let (number, results) = match engine {
-            Engine::Stack => {
-                host::trace_by_stack(terrain, &outlets, 0, dropping, subaccumulation, starts, work)
-            }
-            Engine::Recursion => {
-                host::trace_by_recursion(terrain, &outlets, 0, dropping, subaccumulation, starts)
-            }
+        let work = work.all();
+        let settle = |(number, results)| {
+            accepted(number);
+            found.set(results);
         };
-        accepted(number);
-        found.set(results);
+        let (grid, page) = (subaccumulation, work.as_mut_ptr());
+        match engine {
+            Engine::Stack => watching(page, || {
+                settle(host::trace_by_stack(terrain, &outlets, 0, dropping, grid, starts, work));
+            }),
+            Engine::Recursion => timed(|| {
+                settle(host::trace_by_recursion(terrain, &outlets, 0, dropping, grid, starts));
+            }),
+        }
     };
     let plain = |dropping: bool, found: &Cell<[u32; 5]>| {
         let Lent { subaccumulation, starts, work, bytes, .. } = &mut *sets.plain.borrow_mut();
+        let work = work.all();
         found.set(plain::search(terrain, subaccumulation, bytes, outlet, dropping, starts, work));
     };
     let rust = |dropping: bool, found: &Cell<[u32; 5]>| {
@@ -312,7 +338,7 @@ fn tracing(
                 dropping,
                 subaccumulation,
                 starts,
-                work,
+                work.all(),
             ),
             Engine::Recursion => {
                 entries::trace_by_recursion(terrain, &outlets, 0, dropping, subaccumulation, starts)
@@ -322,11 +348,12 @@ fn tracing(
         found.set(answer.results());
     };
     let found: [Cell<[u32; 5]>; 6] = Default::default();
+    let refused_runs = if engine == Engine::Recursion { runs.quick } else { 0 };
     let times = clock.race(vec![
-        Contestant::new(runs.quick, || library(false, &found[0])),
-        Contestant::new(runs.quick, || library(true, &found[1])),
+        Contestant::timing_itself(runs.quick, || library(false, &found[0])),
+        Contestant::timing_itself(runs.quick, || library(true, &found[1])),
         // No working space: refused with 20, after all checks and with the grid filled.
-        Contestant::new(runs.quick, || {
+        Contestant::new(refused_runs, || {
             let Lent { subaccumulation, starts, .. } = &mut *sets.library.borrow_mut();
             let (number, _) =
                 host::trace_by_stack(terrain, &outlets, 0, false, subaccumulation, starts, &mut []);
@@ -338,19 +365,32 @@ fn tracing(
         Contestant::new(rust_runs[1], || rust(true, &found[5])),
     ]);
     let paths = found[0].get()[2] as usize;
-    assert!(found[0] == found[2] && found[1] == found[3], "the same answers");
-    assert!(rust_runs[0] == 0 || found[0] == found[4], "the same answers");
-    if rust_runs[1] > 0 {
-        assert!(found[1] == found[5], "the same answers");
-        assert!(sets.all_alike(|lent| &lent.starts[..paths]), "the same starts");
-    }
     let cells = terrain.codes.len();
+    for (who, dropping, set) in
+        [(2, 0, &sets.plain), (3, 1, &sets.plain), (4, 0, &sets.rust), (5, 1, &sets.rust)]
+    {
+        if times[who + 1].is_some() {
+            assert_eq!(found[who], found[dropping], "the same answers");
+            let (library, other) = (sets.library.borrow(), set.borrow());
+            assert_eq!(library.starts[..paths], other.starts[..paths], "the same starts");
+        }
+    }
+    let need = 3 * found[0].get()[3] as usize;
+    if engine == Engine::Stack {
+        for set in [&sets.library, &sets.plain] {
+            let left = &mut set.borrow_mut().work;
+            assert!(left.all()[..need].iter().all(|&number| number == 0), "left 0");
+        }
+    }
     let mut figures = Vec::new();
     for dropping in [0, 1] {
         let search = time(times[3 + dropping]);
         let visited = found[dropping].get()[3] as usize;
         figures.push(whole(times[dropping], plain_fill + search, times[5 + dropping], cells));
-        figures.push(apart(times[dropping], times[2], search, visited));
+        figures.push(match engine {
+            Engine::Stack => touching(times[dropping], search, visited),
+            Engine::Recursion => apart(times[dropping], times[2], search, visited),
+        });
     }
     let start = sets.library.borrow().starts[0];
     (figures, start)
@@ -367,7 +407,8 @@ fn recursion(field: &Field, accumulation: &[u32], runs: Runs, clock: &mut Clock)
         codes: &valley.codes,
         accumulation: &accumulation,
     };
-    let runs = Runs { quick: runs.quick.max(7), rust: runs.rust.max(7) };
+    let rust = if runs.rust > 0 { runs.rust.max(7) } else { 0 };
+    let runs = Runs { quick: runs.quick.max(7), rust };
     let sets = Sets::new(valley.cells());
     let plain_fill = subaccumulating(terrain, &[outlet], runs, &sets, clock).plain;
     let steps = accumulation.iter().map(|&n| u64::from(n)).sum();
@@ -406,7 +447,7 @@ fn drawing(
             assert!(path.is_ok());
         }),
     ]);
-    assert!(sets.all_alike(|lent| &lent.places[..drawn.get()]));
+    assert!(sets.all_alike(times[3], |lent| &lent.places[..drawn.get()]));
     let walk = time(times[2]);
     let cells = terrain.codes.len();
     vec![
