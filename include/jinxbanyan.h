@@ -57,7 +57,7 @@ uint32_t jb_trace_by_recursion(size_t rows, size_t cols, const uint8_t *codes, s
 /* 10, 11, 12, 14 to 18, 22, 23. Writes the cells of a path, from its start to the outlet; drawn is how many, 0 on refusal. */
 uint32_t jb_draw(size_t rows, size_t cols, const uint8_t *codes, size_t codes_count, const uint32_t *accumulation,
                  size_t accumulation_count, const uint32_t *outlets, size_t outlets_count, size_t place, uint32_t start,
-                 uint32_t *places, size_t places_count, uint32_t drawn[1]);
+                 uint32_t *path, size_t path_count, uint32_t drawn[1]);
 
 /* 1 no whole header; 2 rows or columns not 1 to 64; 3 fewer code places than cells, or fewer outlet places than 256; 4 a row
    record not whole or not in turn; 5 a code not among the nine; 6 no whole outlet or end record; 7 an outlet outside the

@@ -1,3 +1,2 @@
 pub mod Accumulated
-pub mod Checked
 pub mod Subaccumulated

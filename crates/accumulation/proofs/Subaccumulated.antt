@@ -1,75 +1,73 @@
 -- What subaccumulating answers and leaves: by the checks before filling, which then succeeds.
 -- Assumes nothing.
 use mathlib.Core.Path.{_≡_, refl, sym, ap, _∙_}
-use mathlib.Core.Bool.{Bool, true, false}
-use mathlib.Core.Logic.{inl}
+use mathlib.Core.Bool.{Bool, true}
+use mathlib.Core.Logic.{inl, inr}
 use mathlib.Core.List.{List, [], _∷_, _++_}
 use Prim.Native.Nat.{ℕ}
 use native.Mathlib.Omega.{arith}
 use lib.ListN.{length}
 use borrow.Author.Tests.{ne-eqb}
-use Rattle.ground.specs.Grid.{Grid, gridOf}
+use Rattle.lists.specs.Slices.{overlaid}
+use Rattle.ground.specs.Grid.{Grid}
 use Rattle.ground.specs.Accumulation.{subaccumulations}
 use Rattle.answers.specs.Checks.{Check, firstFailed}
-use Rattle.answers.specs.Entries.{overlaid, outletChecks, subaccumulateNumber, subaccumulateLeaves}
+use Rattle.answers.specs.Entries.{Catchment, outletChecks, subaccumulateNumber, subaccumulateLeaves, Subaccumulates}
 use Rattle.checks.proofs.Passed.{Listed, sized, listed}
-use Rattle.filling.specs.Filling.{Fillable, cutFree, filledIf}
+use Rattle.filling.specs.Filling.{Fillable, Fills, filledIf}
 use Rattle.filling.proofs.NoRings.{agrees-cut-free}
 
-module _ (rows cols : ℕ) (codes a outlets sub : List ℕ) where
+module _ (c : Catchment) (sub : List ℕ) where
   abbrev land : Grid
-  land = gridOf rows cols codes
+  land = c .grid
+
+  abbrev pub lengths : List ℕ
+  lengths = length (c .accumulation) ∷ length sub ∷ []
 
   abbrev pub before : List Check
-  before = outletChecks rows cols codes a (length codes ∷ length a ∷ length sub ∷ []) outlets
-
-  number-is : firstFailed before ≡ subaccumulateNumber rows cols codes a outlets sub
-  unfolding subaccumulateNumber
-  number-is = refl
+  before = outletChecks c lengths
 
   -- what is left, by the number
-  leaves-0 : subaccumulateNumber rows cols codes a outlets sub ≡ 0
-      → overlaid (subaccumulations land outlets) sub ≡ subaccumulateLeaves rows cols codes a outlets sub
+  leaves-0 : subaccumulateNumber c sub ≡ 0 → overlaid (subaccumulations land (c .outlets)) sub
+      ≡ subaccumulateLeaves c sub
   unfolding subaccumulateLeaves
   leaves-0 e = rw e
 
-  leaves-it : (n : ℕ) → subaccumulateNumber rows cols codes a outlets sub ≡ n → (n ≡ 0 → ⊥)
-      → sub ≡ subaccumulateLeaves rows cols codes a outlets sub
+  leaves-it : (n : ℕ) → subaccumulateNumber c sub ≡ n → (n ≡ 0 → ⊥) → sub ≡ subaccumulateLeaves c sub
   unfolding subaccumulateLeaves
   leaves-it n e z = rw (e, ne-eqb n 0 z)
 
   -- REFUSED
-  pub refused : {number : ℕ} → number ≡ firstFailed before → (number ≡ 0 → ⊥)
-      → (number ≡ subaccumulateNumber rows cols codes a outlets sub)
-      × (sub ≡ subaccumulateLeaves rows cols codes a outlets sub)
-  refused {number} is f = let e = is ∙ number-is in (e, leaves-it number (sym e) f)
+  pub refused : {number : ℕ} → number ≡ firstFailed before → (number ≡ 0 → ⊥) → Subaccumulates c sub number sub
+  unfolding subaccumulateNumber
+  refused {number} is f = record { answers = is; leaves = leaves-it number (sym is) f }
 
   -- these checks pass, whatever is checked after them
   module _ (rest : List Check) (passes : firstFailed (before ++ rest) ≡ 0) where
-    pub good : Listed land a outlets
-    good = listed rows cols codes a (length codes ∷ length a ∷ length sub ∷ []) outlets rest 0 (inl (omega arith)) passes
+    pub good : Listed land (c .accumulation) (c .outlets)
+    good = listed c lengths rest 0 (inl (omega arith)) passes
 
-    pub fillable : Fillable rows cols codes outlets sub
+    pub fillable : Fillable (land .rows) (land .cols) (land .codes) (c .outlets) sub
     fillable =
-        let s = sized rows cols codes (length a) (length sub) _ 0 (inl (omega arith)) passes in
+        let s = sized (land .rows) (land .cols) (land .codes) lengths _ 0 (inl (omega arith)) passes in
         record {
-          rows-small = s .rows-small;
-          cols-small = s .cols-small;
+          grid = s .grid;
           some-cols = s .some-cols;
-          has-codes = s .has-codes;
-          has-grid = s .has-third;
+          has-words = s .reach (length sub) (inr (inl refl));
           on-ground = good .at-ground;
         }
 
     -- filling succeeds
-    pub filled-sub : (b : Bool) {exit : List ℕ} → b ≡ cutFree land outlets → exit ≡ filledIf land outlets b sub
-        → exit ≡ filledIf land outlets true sub
-    filled-sub b told e =
-        e ∙ ap (λ (t : Bool). filledIf land outlets t sub) (told ∙ agrees-cut-free land outlets a (good .agreement))
+    pub filled-sub : {b : Bool} {exit : List ℕ} → Fills land (c .outlets) sub b exit
+        → exit ≡ filledIf land (c .outlets) true sub
+    filled-sub f = f .leaves ∙ ap (λ (t : Bool). filledIf land (c .outlets) t sub)
+        (f .answers ∙ agrees-cut-free land (c .outlets) (c .accumulation) (good .agreement))
 
   -- FILLED
-  pub filled : firstFailed before ≡ 0 → (b : Bool) {exit : List ℕ} → b ≡ cutFree land outlets
-      → exit ≡ filledIf land outlets b sub
-      → (0 ≡ subaccumulateNumber rows cols codes a outlets sub)
-      × (exit ≡ subaccumulateLeaves rows cols codes a outlets sub)
-  filled passes b told e = let n = sym number-is ∙ passes in (sym n, filled-sub [] passes b told e ∙ leaves-0 n)
+  module _ {number : ℕ} (is : number ≡ firstFailed before) (z : number ≡ 0) where
+    pub passed-fillable : Fillable (land .rows) (land .cols) (land .codes) (c .outlets) sub
+    passed-fillable = fillable [] (sym is ∙ z)
+
+    pub filled : {b : Bool} {exit : List ℕ} → Fills land (c .outlets) sub b exit → Subaccumulates c sub 0 exit
+    unfolding subaccumulateNumber
+    filled f = let e = sym is ∙ z in record { answers = sym e; leaves = filled-sub [] e f ∙ leaves-0 e }

@@ -4,17 +4,16 @@ use checks::grid_number;
 use checks::outlets_number;
 use filling::fill;
 ghost use mathlib.Core.Path.{_≡_};
-ghost use Rattle.answers.specs.Entries.{accumulateNumber, accumulateLeaves, checkNumber};
-ghost use Rattle.answers.specs.Entries.{subaccumulateNumber, subaccumulateLeaves};
+ghost use Rattle.ground.specs.Grid.{gridOf};
+ghost use Rattle.answers.specs.Entries.{catchment, Accumulates, checkNumber, Subaccumulates};
 
 // Accumulates a grid of codes: 10, 11, 12, 13. A ring is seen while filling, and the cells' places are then cleared.
 pub fn accumulate(rows: usize, cols: usize, codes: &[u8], accumulation: &mut [u32]) -> u32
-    ensures answers { λ r. ⌜ r ≡ accumulateNumber rows cols (now (codes .entry)) (now (accumulation .entry)) ⌝ }
-    ensures leaves { λ _. ⌜ now (accumulation .exit)
-        ≡ accumulateLeaves rows cols (now (codes .entry)) (now (accumulation .entry)) ⌝ }
+    ensures { λ r. ⌜ Accumulates (gridOf rows cols (now (codes .entry))) (now (accumulation .entry)) r
+        (now (accumulation .exit)) ⌝ }
 {
-    let lent = accumulation.len();
-    let number = grid_number(rows, cols, codes, lent, lent);
+    let lent = [accumulation.len()];
+    let number = grid_number(rows, cols, codes, &lent);
     if number != 0 {
         return number;
     }
@@ -27,9 +26,10 @@ pub fn accumulate(rows: usize, cols: usize, codes: &[u8], accumulation: &mut [u3
 
 // Checks an accumulation: 10, 11, 12, 14.
 pub fn check_accumulation(rows: usize, cols: usize, codes: &[u8], accumulation: &[u32]) -> u32
-    ensures { λ r. ⌜ r ≡ checkNumber rows cols (now (codes .entry)) (now (accumulation .entry)) ⌝ }
+    ensures { λ r. ⌜ r ≡ checkNumber (gridOf rows cols (now (codes .entry))) (now (accumulation .entry)) ⌝ }
 {
-    agreed_number(rows, cols, codes, accumulation, accumulation.len())
+    let lengths = [accumulation.len()];
+    agreed_number(rows, cols, codes, accumulation, &lengths)
 }
 
 // Subaccumulates a grid of codes under a list of outlets: 10, 11, 12, 14, 15, 16, 17. Where an accumulation agrees
@@ -42,21 +42,12 @@ pub fn subaccumulate(
     outlets: &[u32],
     subaccumulation: &mut [u32],
 ) -> u32
-    ensures answers { λ r. ⌜ r
-        ≡ subaccumulateNumber rows cols (now (codes .entry)) (now (accumulation .entry)) (now (outlets .entry))
-        (now (subaccumulation .entry)) ⌝ }
-    ensures leaves { λ _. ⌜ now (subaccumulation .exit)
-        ≡ subaccumulateLeaves rows cols (now (codes .entry)) (now (accumulation .entry)) (now (outlets .entry))
-        (now (subaccumulation .entry)) ⌝ }
+    ensures { λ r. ⌜ Subaccumulates
+        (catchment rows cols (now (codes .entry)) (now (accumulation .entry)) (now (outlets .entry)))
+        (now (subaccumulation .entry)) r (now (subaccumulation .exit)) ⌝ }
 {
-    let number = outlets_number(
-        rows,
-        cols,
-        codes,
-        accumulation,
-        outlets,
-        subaccumulation.len(),
-    );
+    let lengths = [accumulation.len(), subaccumulation.len()];
+    let number = outlets_number(rows, cols, codes, accumulation, outlets, &lengths);
     if number != 0 {
         return number;
     }

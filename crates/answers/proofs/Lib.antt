@@ -1,2 +1,3 @@
+pub mod FirstFailed
 pub mod Accepted
 pub mod MarkedCases

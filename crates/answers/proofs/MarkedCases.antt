@@ -3,7 +3,7 @@
 use mathlib.Core.Path.{_≡_, refl}
 use mathlib.Core.List.{map}
 use Rattle.lengths.specs.Rule.{compared, ruled, signOf, isShorter}
-use Rattle.ground.specs.Lists.{sumOf}
+use Rattle.lists.specs.Lists.{sumOf}
 use Rattle.ground.specs.Compass.{dirOf}
 use Rattle.ground.specs.Grid.{codeAt, neighbour, next, inflowRecord, inflows}
 use Rattle.ground.specs.Walk.{ringFree}
@@ -29,24 +29,11 @@ use Rattle.answers.specs.Checks.{
   check22,
   check23,
 }
-use Rattle.answers.specs.Entries.{
-  overlaid,
-  accumulateNumber,
-  accumulateLeaves,
-  checkNumber,
-  subaccumulateNumber,
-  subaccumulateLeaves,
-}
-use Rattle.answers.specs.Tracings.{
-  tracedBy,
-  recursionNumber,
-  stackNumber,
-  recursionAnswer,
-  stackAnswer,
-  traceLeavesSub,
-  traceLeavesStarts,
-  traceLeavesWork,
-}
+use Rattle.lists.specs.Slices.{overlaid}
+use Rattle.answers.specs.Entries.{accumulateNumber, accumulateLeaves, checkNumber}
+use Rattle.answers.specs.Entries.{subaccumulateNumber, subaccumulateLeaves}
+use Rattle.answers.specs.Tracings.{tracedWith, recursionNumber, stackNumber}
+use Rattle.answers.specs.Tracings.{leavesSubaccumulation, leavesStarts, leavesWork}
 use Rattle.answers.specs.Drawing.{drawNumber, drawLeaves, drawnPart}
 use Rattle.answers.specs.Marked.{marks, worked}
 
@@ -54,6 +41,6 @@ pub marked : map worked marks ≡ marks
 unfolding compared ruled signOf isShorter sumOf dirOf codeAt neighbour next inflowRecord inflows ringFree balance
     agrees subaccumulation belongs inSubwatershed walked forest tracingBy firstFailed isCode check10 check11 check12
     check13 check14 check15 check16 check17 check18 check19 check20 check21 check22 check23 overlaid accumulateNumber
-    accumulateLeaves checkNumber subaccumulateNumber subaccumulateLeaves tracedBy recursionNumber stackNumber
-    recursionAnswer stackAnswer traceLeavesSub traceLeavesStarts traceLeavesWork drawNumber drawLeaves drawnPart
+    accumulateLeaves checkNumber subaccumulateNumber subaccumulateLeaves tracedWith recursionNumber stackNumber
+    leavesSubaccumulation leavesStarts leavesWork drawNumber drawLeaves drawnPart
 marked = refl

@@ -4,15 +4,15 @@ use mathlib.Core.Bool.{Bool, true, false, cond, not, _&&_, _||_}
 use mathlib.Core.List.{List, [], _∷_}
 use mathlib.Core.Option.{Option, none, some}
 use Prim.Native.Nat.{ℕ, _*_}
-use lib.ListN.{length, getD, take}
+use lib.ListN.{length, getD}
 use lib.Dec.{eqb, ltb, leb}
-use Rattle.ground.specs.Lists.{member, allBelow}
+use Rattle.lists.specs.Lists.{member, allBelow}
 use Rattle.ground.specs.Compass.{Dir, dirOf}
-use Rattle.ground.specs.Grid.{Grid, gridOf, places, ground}
+use Rattle.ground.specs.Grid.{Grid, cellCount, ground}
 use Rattle.ground.specs.Walk.{ringFree}
-use Rattle.ground.specs.Accumulation.{agrees, subaccumulation}
+use Rattle.ground.specs.Accumulation.{agrees}
 use Rattle.ground.specs.Subwatershed.{inSubwatershed}
-use Rattle.search.specs.Tracing.{Tracing}
+use Rattle.search.specs.Tracing.{Tracing, pathCount, numbersEach}
 
 -- a question with its number: does it pass?
 pub record Check : Type 0 where
@@ -52,7 +52,7 @@ unfoldable pub isCode : ℕ → Bool
 isCode code = eqb code 0 || isDir (dirOf code)
 
 unfoldable pub check12 : Grid → Check
-check12 g = check 12 (allBelow (λ x. isCode (getD (g .codes) x 0)) (places g))
+check12 g = check 12 (allBelow (λ x. isCode (getD (g .codes) x 0)) (cellCount g))
 
 -- 13, when accumulating only: no walk comes back to a cell
 unfoldable pub check13 : Grid → Check
@@ -68,7 +68,7 @@ check15 outlets = check 15 (leb 1 (length outlets) && leb (length outlets) 256)
 
 -- 16: every outlet of the list is the number of a cell with ground
 unfoldable pub check16 : Grid → List ℕ → Check
-check16 g outlets = check 16 (allPass (λ o. ltb o (places g) && ground g o) outlets)
+check16 g outlets = check 16 (allPass (λ o. ltb o (cellCount g) && ground g o) outlets)
 
 -- 17: no outlet stands in the list twice
 abbrev pub different : List ℕ → Bool
@@ -83,16 +83,16 @@ unfoldable pub check18 : List ℕ → ℕ → Check
 check18 outlets place = check 18 (ltb place (length outlets))
 
 -- 19, by recursion: the outlet has no more than 4,096 cells
-unfoldable pub check19 : Grid → List ℕ → ℕ → Check
-check19 g outlets o = check 19 (leb (subaccumulation g outlets o) 4096)
+unfoldable pub check19 : ℕ → Check
+check19 cells = check 19 (leb cells 4096)
 
--- 20, by stack: the working space has three numbers for each of the outlet's cells
-unfoldable pub check20 : Grid → List ℕ → ℕ → List ℕ → Check
-check20 g outlets o work = check 20 (leb (3 * subaccumulation g outlets o) (length work))
+-- 20, by stack: the working space has its numbers for each of the outlet's cells
+unfoldable pub check20 : ℕ → List ℕ → Check
+check20 cells work = check 20 (leb (numbersEach * cells) (length work))
 
 -- 21, tracing: the list has a place for each longest path that the whole search found
 unfoldable pub check21 : Tracing → List ℕ → Check
-check21 tracing starts = check 21 (leb (tracing .paths) (length starts))
+check21 tracing starts = check 21 (leb (pathCount tracing) (length starts))
 
 -- 22, drawing: the start lies in the outlet's subwatershed
 unfoldable pub check22 : Grid → List ℕ → ℕ → ℕ → Check

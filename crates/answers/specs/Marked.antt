@@ -4,36 +4,22 @@
 use mathlib.Core.Bool.{Bool, true, false}
 use mathlib.Core.List.{List, [], _∷_, _++_, map}
 use Prim.Native.Nat.{ℕ, suc, _*_, _^_}
-use lib.ListN.{length, replicate, getD}
+use lib.ListN.{length, replicate}
+use Rattle.lists.specs.Lists.{upTo}
+use Rattle.lists.specs.Slices.{zeros}
 use Rattle.lengths.specs.declared.Length.{Length}
 use Rattle.lengths.specs.declared.Order.{Order}
-use Rattle.lengths.specs.declared.Order.the-variants.{Shorter, Same, Longer}
+use Rattle.lengths.specs.declared.Order.the-variants.{Shorter, Longer}
 use Rattle.lengths.specs.Rule.{counts, compared}
-use Rattle.ground.specs.Lists.{upTo}
-use Rattle.ground.specs.Grid.{gridOf}
-use Rattle.ground.specs.Accumulation.{accumulations, subaccumulation}
-use Rattle.answers.specs.declared.Answer.{Answer}
+use Rattle.ground.specs.Grid.{Grid, gridOf, cellCount}
+use Rattle.search.specs.Tracing.{numbersEach}
 use Rattle.answers.specs.declared.Answer.the-variants.{Found, NoPlace, Refused}
 use Rattle.answers.specs.declared.Traced.{Traced}
-use Rattle.answers.specs.Entries.{
-  zeros,
-  accumulateNumber,
-  accumulateLeaves,
-  checkNumber,
-  subaccumulateNumber,
-  subaccumulateLeaves,
-}
-use Rattle.answers.specs.Tracings.{
-  answered,
-  stackNumber,
-  stackAnswer,
-  recursionNumber,
-  recursionAnswer,
-  traceLeavesSub,
-  traceLeavesStarts,
-  traceLeavesWork,
-}
-use Rattle.answers.specs.Drawing.{drawNumber, drawLeaves, drawnPart}
+use Rattle.answers.specs.Entries.{Catchment, accumulateNumber, accumulateLeaves, checkNumber}
+use Rattle.answers.specs.Entries.{subaccumulateNumber, subaccumulateLeaves}
+use Rattle.answers.specs.Tracings.{answered, tracedBy, Call, lent, chosenCells, chosenTracing}
+use Rattle.answers.specs.Tracings.{recursionNumber, stackNumber, leavesSubaccumulation, leavesStarts, leavesWork}
+use Rattle.answers.specs.Drawing.{Drawing, drawNumber, drawLeaves, drawnPart}
 
 -- what was lent holds nines
 abbrev pub nines : ℕ → List ℕ
@@ -52,17 +38,17 @@ noPlace paths visited dropped = answered visited dropped (NoPlace paths)
 abbrev pub refused : ℕ → Traced
 refused number = answered 0 0 (Refused number)
 
--- what is told of an outlet by stack with dropping, and by recursion without; what is left in a list of three places, and
--- in a working space with one number more than is needed
-pub record Told : Type 0 where
+-- what is answered of an outlet by stack with dropping, and by recursion without; what is left in a list of three
+-- places, and in a working space with one number more than is needed
+pub record TracedWays : Type 0 where
   pub dropping : Traced
   pub plain : Traced
   pub starts : List ℕ
   pub work : List ℕ
 
 -- the same by its numbers: length, paths, visited, dropped, the cells of the subwatershed
-abbrev pub tells : ℕ → ℕ → ℕ → ℕ → ℕ → ℕ → List ℕ → Told
-tells a b paths visited dropped cells starts = record {
+abbrev pub ways : ℕ → ℕ → ℕ → ℕ → ℕ → ℕ → List ℕ → TracedWays
+ways a b paths visited dropped cells starts = record {
   dropping = found a b paths visited dropped;
   plain = found a b paths cells 0;
   starts = starts;
@@ -73,75 +59,82 @@ pub data Mark : Type 0 where
   -- two lengths compared
   compares : Length → Length → Order → Mark
   -- accumulating: the lent grid, the number, what is left
-  accumulates : (rows cols : ℕ) (codes lent : List ℕ) → ℕ → List ℕ → Mark
+  accumulates : (rows cols : ℕ) (codes given : List ℕ) → ℕ → List ℕ → Mark
   -- a lent accumulation checked: the number
-  checks : (rows cols : ℕ) (codes lent : List ℕ) → ℕ → Mark
-  -- with the accumulation that accumulating leaves: subaccumulating's number and what it leaves, then what is told of each
-  -- outlet
-  traces : (rows cols : ℕ) (codes outlets : List ℕ) → ℕ → List ℕ → List Told → Mark
+  checks : (rows cols : ℕ) (codes given : List ℕ) → ℕ → Mark
+  -- with the accumulation that accumulating leaves: subaccumulating's number and what it leaves, then what is answered
+  -- of each outlet
+  traces : (rows cols : ℕ) (codes outlets : List ℕ) → ℕ → List ℕ → List TracedWays → Mark
   -- the same, one call by stack with dropping at a place of the list: the lent list, the size of the working space; the
   -- answer, what is left in the subaccumulation grid, the list and the working space
   calls : (rows cols : ℕ) (codes outlets : List ℕ) (place : ℕ) (starts : List ℕ) (work : ℕ) → Traced → List ℕ → List ℕ
       → List ℕ → Mark
   -- one drawing: the lent places; the number, what is left, the part handed back
-  draws : (rows cols : ℕ) (codes outlets : List ℕ) (place start : ℕ) (places : List ℕ) → ℕ → List ℕ → List ℕ → Mark
+  draws : (rows cols : ℕ) (codes outlets : List ℕ) (place start : ℕ) (room : List ℕ) → ℕ → List ℕ → List ℕ → Mark
 
-module _ (rows cols : ℕ) (codes outlets : List ℕ) where
-  -- a lent grid, one place longer than it need be
-  abbrev pub lentGrid : List ℕ
-  lentGrid = nines (suc (rows * cols))
+-- a lent grid, one place longer than it need be
+abbrev pub lentGrid : Grid → List ℕ
+lentGrid g = nines (suc (cellCount g))
 
-  -- the accumulation that accumulating leaves there
-  abbrev pub lentAccumulation : List ℕ
-  lentAccumulation = accumulateLeaves rows cols codes lentGrid
+-- a grid with the accumulation that accumulating leaves there, and outlets
+abbrev pub lentCatchment : Grid → List ℕ → Catchment
+lentCatchment g outlets = record { grid = g; accumulation = accumulateLeaves g (lentGrid g); outlets = outlets }
 
-  -- a call by stack with dropping
-  module _ (place : ℕ) (starts work : List ℕ) where
-    abbrev pub calledNumber : ℕ
-    calledNumber = stackNumber true rows cols codes lentAccumulation outlets place lentGrid starts work
+-- a call at a place of the list
+abbrev pub lentCall : Grid → List ℕ → ℕ → Bool → Call
+lentCall g outlets place dropping = record { catchment = lentCatchment g outlets; place = place; dropping = dropping }
 
-    abbrev pub calledAnswer : Traced
-    calledAnswer = stackAnswer true rows cols codes lentAccumulation outlets place lentGrid starts work
+-- by stack with dropping, into a list and a working space
+module _ (g : Grid) (outlets : List ℕ) (place : ℕ) (starts work : List ℕ) where
+  abbrev pub calledNumber : ℕ
+  calledNumber = stackNumber (lentCall g outlets place true) (lent (lentGrid g) starts) work
 
-    abbrev pub calledStarts : List ℕ
-    calledStarts = traceLeavesStarts true rows cols codes lentAccumulation outlets place lentGrid starts calledNumber
+  abbrev pub calledAnswer : Traced
+  calledAnswer = tracedBy calledNumber (chosenTracing (lentCall g outlets place true))
 
-    abbrev pub calledWork : List ℕ
-    calledWork = traceLeavesWork true rows cols codes lentAccumulation outlets place lentGrid starts calledNumber work
+  abbrev pub calledSubaccumulation : List ℕ
+  calledSubaccumulation = leavesSubaccumulation (lentCall g outlets place true) calledNumber (lentGrid g)
 
-    abbrev pub calledSub : List ℕ
-    calledSub = traceLeavesSub true rows cols codes lentAccumulation outlets place lentGrid starts calledNumber
+  abbrev pub calledStarts : List ℕ
+  calledStarts = leavesStarts (lentCall g outlets place true) calledNumber starts
 
-  abbrev pub workFor : ℕ → List ℕ
-  workFor place = nines (suc (3 * subaccumulation (gridOf rows cols codes) outlets (getD outlets place 0)))
+  abbrev pub calledWork : List ℕ
+  calledWork = leavesWork (lentCall g outlets place true) calledNumber work
 
-  abbrev pub tellAt : ℕ → Told
-  tellAt place = record {
-    dropping = calledAnswer place (nines 3) (workFor place);
-    plain = recursionAnswer false rows cols codes lentAccumulation outlets place lentGrid (nines 3);
-    starts = calledStarts place (nines 3) (workFor place);
-    work = calledWork place (nines 3) (workFor place);
-  }
+abbrev pub tracingAt : Grid → List ℕ → ℕ → TracedWays
+tracingAt g outlets place =
+    let call = lentCall g outlets place false in
+    let work = nines (suc (numbersEach * chosenCells call)) in
+    record {
+      dropping = calledAnswer g outlets place (nines 3) work;
+      plain = tracedBy (recursionNumber call (lent (lentGrid g) (nines 3))) (chosenTracing call);
+      starts = calledStarts g outlets place (nines 3) work;
+      work = calledWork g outlets place (nines 3) work;
+    }
 
 -- the row worked out again
 abbrev pub worked : Mark → Mark
 worked (compares l m o) = compares l m (compared l m)
-worked (accumulates r c codes lent n left) =
-    accumulates r c codes lent (accumulateNumber r c codes lent) (accumulateLeaves r c codes lent)
-worked (checks r c codes lent n) = checks r c codes lent (checkNumber r c codes lent)
-worked (traces r c codes outs n left told) = traces r c codes outs
-    (subaccumulateNumber r c codes (lentAccumulation r c codes outs) outs (lentGrid r c codes outs))
-    (subaccumulateLeaves r c codes (lentAccumulation r c codes outs) outs (lentGrid r c codes outs))
-    (map (tellAt r c codes outs) (upTo (length outs)))
-worked (calls r c codes outs place starts work t sub left clean) = calls r c codes outs place starts work
-    (calledAnswer r c codes outs place starts (nines work))
-    (calledSub r c codes outs place starts (nines work))
-    (calledStarts r c codes outs place starts (nines work))
-    (calledWork r c codes outs place starts (nines work))
-worked (draws r c codes outs place start places n left part) = draws r c codes outs place start places
-    (drawNumber r c codes (lentAccumulation r c codes outs) outs place start places)
-    (drawLeaves r c codes (lentAccumulation r c codes outs) outs place start places)
-    (drawnPart r c codes (lentAccumulation r c codes outs) outs place start places)
+worked (accumulates r c codes given n left) =
+    let g = gridOf r c codes in
+    accumulates r c codes given (accumulateNumber g given) (accumulateLeaves g given)
+worked (checks r c codes given n) = checks r c codes given (checkNumber (gridOf r c codes) given)
+worked (traces r c codes outs n left ways) =
+    let g = gridOf r c codes in
+    traces r c codes outs
+    (subaccumulateNumber (lentCatchment g outs) (lentGrid g))
+    (subaccumulateLeaves (lentCatchment g outs) (lentGrid g))
+    (map (tracingAt g outs) (upTo (length outs)))
+worked (calls r c codes outs place starts work t sub left clean) =
+    let g = gridOf r c codes in
+    calls r c codes outs place starts work
+    (calledAnswer g outs place starts (nines work))
+    (calledSubaccumulation g outs place starts (nines work))
+    (calledStarts g outs place starts (nines work))
+    (calledWork g outs place starts (nines work))
+worked (draws r c codes outs place start room n left part) =
+    let q : Drawing = record { catchment = lentCatchment (gridOf r c codes) outs; place = place; start = start } in
+    draws r c codes outs place start room (drawNumber q room) (drawLeaves q room) (drawnPart q room)
 
 -- THE TABLE
 abbrev pub marks : List Mark
@@ -149,22 +142,23 @@ marks =
     -- M1
     accumulates 1 1 (1 ∷ []) (nines 2) 0 (1 ∷ 9 ∷ [])
     ∷ traces 1 1 (1 ∷ []) (0 ∷ []) 0 (1 ∷ 9 ∷ [])
-    (tells 0 0 1 1 0 1 (0 ∷ 9 ∷ 9 ∷ []) ∷ [])
+    (ways 0 0 1 1 0 1 (0 ∷ 9 ∷ 9 ∷ []) ∷ [])
     -- M2
     ∷ accumulates 1 3 (1 ∷ 4 ∷ 16 ∷ []) (nines 4) 0 (1 ∷ 3 ∷ 1 ∷ 9 ∷ [])
     ∷ traces 1 3 (1 ∷ 4 ∷ 16 ∷ []) (1 ∷ []) 0 (1 ∷ 3 ∷ 1 ∷ 9 ∷ [])
-    (tells 1 0 2 3 0 3 (2 ∷ 0 ∷ 9 ∷ []) ∷ [])
+    (ways 1 0 2 3 0 3 (2 ∷ 0 ∷ 9 ∷ []) ∷ [])
     -- M3, the desk's example too: 4 cells, visited 3, dropped 1
     ∷ accumulates 1 4 (1 ∷ 4 ∷ 16 ∷ 16 ∷ []) (nines 5) 0 (1 ∷ 4 ∷ 2 ∷ 1 ∷ 9 ∷ [])
     ∷ traces 1 4 (1 ∷ 4 ∷ 16 ∷ 16 ∷ []) (1 ∷ []) 0 (1 ∷ 4 ∷ 2 ∷ 1 ∷ 9 ∷ [])
-    (tells 2 0 1 3 1 4 (3 ∷ 9 ∷ 9 ∷ []) ∷ [])
+    (ways 2 0 1 3 1 4 (3 ∷ 9 ∷ 9 ∷ []) ∷ [])
     -- M4
-    ∷ accumulates 3 3 (2 ∷ 4 ∷ 8 ∷ 1 ∷ 4 ∷ 16 ∷ 1 ∷ 4 ∷ 16 ∷ []) (nines 10) 0 (1 ∷ 1 ∷ 1 ∷ 1 ∷ 6 ∷ 1 ∷ 1 ∷ 9 ∷ 1 ∷ 9 ∷ [])
+    ∷ accumulates 3 3 (2 ∷ 4 ∷ 8 ∷ 1 ∷ 4 ∷ 16 ∷ 1 ∷ 4 ∷ 16 ∷ []) (nines 10) 0
+    (1 ∷ 1 ∷ 1 ∷ 1 ∷ 6 ∷ 1 ∷ 1 ∷ 9 ∷ 1 ∷ 9 ∷ [])
     ∷ traces 3 3 (2 ∷ 4 ∷ 8 ∷ 1 ∷ 4 ∷ 16 ∷ 1 ∷ 4 ∷ 16 ∷ []) (7 ∷ []) 0 (1 ∷ 1 ∷ 1 ∷ 1 ∷ 6 ∷ 1 ∷ 1 ∷ 9 ∷ 1 ∷ 9 ∷ [])
-    (tells 1 1 2 9 0 9 (0 ∷ 2 ∷ 9 ∷ []) ∷ [])
+    (ways 1 1 2 9 0 9 (0 ∷ 2 ∷ 9 ∷ []) ∷ [])
     -- M5
     ∷ traces 3 3 (2 ∷ 4 ∷ 8 ∷ 1 ∷ 4 ∷ 16 ∷ 1 ∷ 4 ∷ 16 ∷ []) (7 ∷ 4 ∷ []) 0 (1 ∷ 1 ∷ 1 ∷ 1 ∷ 6 ∷ 1 ∷ 1 ∷ 3 ∷ 1 ∷ 9 ∷ [])
-    (tells 1 0 2 3 0 3 (8 ∷ 6 ∷ 9 ∷ []) ∷ tells 0 1 2 6 0 6 (0 ∷ 2 ∷ 9 ∷ []) ∷ [])
+    (ways 1 0 2 3 0 3 (8 ∷ 6 ∷ 9 ∷ []) ∷ ways 0 1 2 6 0 6 (0 ∷ 2 ∷ 9 ∷ []) ∷ [])
     -- M6: a ring
     ∷ accumulates 1 2 (1 ∷ 16 ∷ []) (nines 3) 13 (0 ∷ 0 ∷ 9 ∷ [])
     -- M7: a null cell, and no outlet
@@ -181,32 +175,32 @@ marks =
     ∷ calls 1 3 (1 ∷ 4 ∷ 16 ∷ []) (1 ∷ []) 0 [] 10 (noPlace 2 3 0) (1 ∷ 3 ∷ 1 ∷ 9 ∷ []) [] (wiped 9)
     -- an upper outlet is not crossed
     ∷ traces 1 3 (1 ∷ 4 ∷ 16 ∷ []) (1 ∷ 0 ∷ []) 0 (1 ∷ 2 ∷ 1 ∷ 9 ∷ [])
-    (tells 1 0 1 2 0 2 (2 ∷ 9 ∷ 9 ∷ []) ∷ tells 0 0 1 1 0 1 (0 ∷ 9 ∷ 9 ∷ []) ∷ [])
+    (ways 1 0 1 2 0 2 (2 ∷ 9 ∷ 9 ∷ []) ∷ ways 0 0 1 1 0 1 (0 ∷ 9 ∷ 9 ∷ []) ∷ [])
     -- short ties come before the longer path: the list is not scratch, and one place is enough
     ∷ traces 3 3 (0 ∷ 4 ∷ 0 ∷ 0 ∷ 4 ∷ 0 ∷ 1 ∷ 4 ∷ 16 ∷ []) (7 ∷ []) 0 (0 ∷ 1 ∷ 0 ∷ 0 ∷ 2 ∷ 0 ∷ 1 ∷ 5 ∷ 1 ∷ 9 ∷ [])
-    (tells 2 0 1 5 0 5 (1 ∷ 9 ∷ 9 ∷ []) ∷ [])
+    (ways 2 0 1 5 0 5 (1 ∷ 9 ∷ 9 ∷ []) ∷ [])
     ∷ calls 3 3 (0 ∷ 4 ∷ 0 ∷ 0 ∷ 4 ∷ 0 ∷ 1 ∷ 4 ∷ 16 ∷ []) (7 ∷ []) 0 (nines 1) 16 (found 2 0 1 5 0)
     (0 ∷ 1 ∷ 0 ∷ 0 ∷ 2 ∷ 0 ∷ 1 ∷ 5 ∷ 1 ∷ 9 ∷ []) (1 ∷ []) (wiped 15)
     -- outlets in any order
     ∷ traces 1 6 (1 ∷ 1 ∷ 1 ∷ 1 ∷ 1 ∷ 1 ∷ []) (2 ∷ 0 ∷ 5 ∷ []) 0 (1 ∷ 1 ∷ 2 ∷ 1 ∷ 2 ∷ 3 ∷ 9 ∷ [])
-    (tells 1 0 1 2 0 2 (1 ∷ 9 ∷ 9 ∷ []) ∷ tells 0 0 1 1 0 1 (0 ∷ 9 ∷ 9 ∷ []) ∷ tells 2 0 1 3 0 3 (3 ∷ 9 ∷ 9 ∷ []) ∷ [])
+    (ways 1 0 1 2 0 2 (1 ∷ 9 ∷ 9 ∷ []) ∷ ways 0 0 1 1 0 1 (0 ∷ 9 ∷ 9 ∷ []) ∷ ways 2 0 1 3 0 3 (3 ∷ 9 ∷ 9 ∷ []) ∷ [])
     -- a tie that sums of floats split
     ∷ traces 3 7 (0 ∷ 0 ∷ 0 ∷ 64 ∷ 16 ∷ 0 ∷ 0 ∷ 0 ∷ 0 ∷ 128 ∷ 0 ∷ 0 ∷ 32 ∷ 0 ∷ 1 ∷ 128 ∷ 0 ∷ 0 ∷ 0 ∷ 0 ∷ 32 ∷ [])
     (3 ∷ []) 0 (0 ∷ 0 ∷ 0 ∷ 7 ∷ 3 ∷ 0 ∷ 0 ∷ 0 ∷ 0 ∷ 3 ∷ 0 ∷ 0 ∷ 2 ∷ 0 ∷ 1 ∷ 2 ∷ 0 ∷ 0 ∷ 0 ∷ 0 ∷ 1 ∷ 9 ∷ [])
-    (tells 1 2 2 7 0 7 (20 ∷ 14 ∷ 9 ∷ []) ∷ [])
+    (ways 1 2 2 7 0 7 (20 ∷ 14 ∷ 9 ∷ []) ∷ [])
     -- a snail
     ∷ traces 3 3 (1 ∷ 1 ∷ 64 ∷ 64 ∷ 1 ∷ 4 ∷ 64 ∷ 16 ∷ 16 ∷ []) (2 ∷ []) 0 (7 ∷ 8 ∷ 9 ∷ 6 ∷ 1 ∷ 2 ∷ 5 ∷ 4 ∷ 3 ∷ 9 ∷ [])
-    (tells 8 0 1 9 0 9 (4 ∷ 9 ∷ 9 ∷ []) ∷ [])
+    (ways 8 0 1 9 0 9 (4 ∷ 9 ∷ 9 ∷ []) ∷ [])
     -- a valley that a lower estimate from Hack's law drops wrongly
     ∷ traces 6 7 (2 ∷ 0 ∷ 0 ∷ 0 ∷ 0 ∷ 0 ∷ 0 ∷ 0 ∷ 2 ∷ 2 ∷ 2 ∷ 4 ∷ 8 ∷ 8 ∷ 0 ∷ 0 ∷ 2 ∷ 2 ∷ 4 ∷ 8 ∷ 8 ∷ 0 ∷ 0 ∷ 2 ∷ 8
     ∷ 16 ∷ 16 ∷ 16 ∷ 0 ∷ 0 ∷ 0 ∷ 128 ∷ 64 ∷ 32 ∷ 32 ∷ 0 ∷ 0 ∷ 128 ∷ 128 ∷ 64 ∷ 32 ∷ 32 ∷ []) (24 ∷ []) 0
     (1 ∷ 0 ∷ 0 ∷ 0 ∷ 0 ∷ 0 ∷ 0 ∷ 0 ∷ 2 ∷ 1 ∷ 1 ∷ 1 ∷ 1 ∷ 1 ∷ 0 ∷ 0 ∷ 3 ∷ 2 ∷ 4 ∷ 2 ∷ 1 ∷ 0 ∷ 0 ∷ 1 ∷ 26 ∷ 22 ∷ 4 ∷ 1
     ∷ 0 ∷ 0 ∷ 0 ∷ 3 ∷ 4 ∷ 2 ∷ 1 ∷ 0 ∷ 0 ∷ 1 ∷ 1 ∷ 1 ∷ 1 ∷ 1 ∷ 9 ∷ [])
-    (tells 0 3 1 20 6 26 (0 ∷ 9 ∷ 9 ∷ []) ∷ [])
+    (ways 0 3 1 20 6 26 (0 ∷ 9 ∷ 9 ∷ []) ∷ [])
     -- one column: a walk east ends off the grid and does not wrap
     ∷ accumulates 2 1 (1 ∷ 1 ∷ []) (nines 3) 0 (1 ∷ 1 ∷ 9 ∷ [])
     ∷ traces 2 1 (1 ∷ 1 ∷ []) (0 ∷ 1 ∷ []) 0 (1 ∷ 1 ∷ 9 ∷ [])
-    (tells 0 0 1 1 0 1 (0 ∷ 9 ∷ 9 ∷ []) ∷ tells 0 0 1 1 0 1 (1 ∷ 9 ∷ 9 ∷ []) ∷ [])
+    (ways 0 0 1 1 0 1 (0 ∷ 9 ∷ 9 ∷ []) ∷ ways 0 0 1 1 0 1 (1 ∷ 9 ∷ 9 ∷ []) ∷ [])
     -- 10 before any product of R and C
     ∷ accumulates 0 4 [] (nines 2) 10 (nines 2)
     ∷ accumulates 1 4097 [] (nines 2) 10 (nines 2)

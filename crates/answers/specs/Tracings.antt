@@ -1,19 +1,21 @@
 -- What tracing answers, by stack and by recursion, and what it leaves in the lent grid, list and working space.
 -- Assumes nothing.
-use mathlib.Core.Bool.{Bool, true, false, cond}
+use mathlib.Core.Path.{_≡_}
+use mathlib.Core.Bool.{Bool, cond}
 use mathlib.Core.List.{List, [], _∷_, _++_}
 use Prim.Native.Nat.{ℕ, _*_}
 use lib.ListN.{length, getD}
 use lib.Dec.{eqb}
-use Rattle.ground.specs.Lists.{member}
-use Rattle.ground.specs.Grid.{Grid, gridOf}
+use Rattle.lengths.specs.declared.Length.{Length}
+use Rattle.lists.specs.Lists.{member}
+use Rattle.lists.specs.Slices.{overlaid, zeros}
 use Rattle.ground.specs.Accumulation.{subaccumulation, subaccumulations}
-use Rattle.search.specs.Tracing.{Tracing, tracing}
+use Rattle.search.specs.Tracing.{Tracing, longestLength, pathCount, startCells, tracing, numbersEach}
 use Rattle.answers.specs.declared.Answer.{Answer}
 use Rattle.answers.specs.declared.Answer.the-variants.{Found, NoPlace, Refused}
 use Rattle.answers.specs.declared.Traced.{Traced}
-use Rattle.answers.specs.Checks.{Check, firstFailed, check18, check19, check20, check21}
-use Rattle.answers.specs.Entries.{overlaid, zeros, outletChecks}
+use Rattle.answers.specs.Checks.{Check, firstFailed, check19, check20, check21}
+use Rattle.answers.specs.Entries.{Catchment, catchment, placeChecks}
 
 -- the number of each kind of answer
 abbrev pub numberOf : Answer → ℕ
@@ -26,53 +28,93 @@ answered visited dropped answer = record { visited = visited; dropped = dropped;
 
 -- the answer to each number: on 0 the length and how many paths there are; on 21 how many there are; else the number
 -- itself. What was visited and dropped is told with the first two, and is 0 with the others
-unfoldable pub tracedBy : ℕ → Tracing → Traced
-tracedBy number t =
-    cond (eqb number 0) (answered (t .visited) (t .dropped) (Found (t .len .straight) (t .len .diagonal) (t .paths)))
-    (cond (eqb number 21) (answered (t .visited) (t .dropped) (NoPlace (t .paths)))
+unfoldable pub tracedWith : ℕ → Length → ℕ → ℕ → ℕ → Traced
+tracedWith number length paths visited dropped =
+    cond (eqb number 0) (answered visited dropped (Found (length .straight) (length .diagonal) paths))
+    (cond (eqb number 21) (answered visited dropped (NoPlace paths))
     (answered 0 0 (Refused number)))
 
-module _ (dropping : Bool) (rows cols : ℕ) (codes accumulation outlets : List ℕ) (place : ℕ) (sub starts : List ℕ) where
-  abbrev grid : Grid
-  grid = gridOf rows cols codes
+abbrev pub tracedBy : ℕ → Tracing → Traced
+tracedBy number t = tracedWith number (longestLength t) (pathCount t) (t .visited) (t .dropped)
 
+-- ---- a call
+
+-- a place of the list of outlets, and whether the search drops
+pub record Call : Type 0 where
+  pub catchment : Catchment
+  pub place : ℕ
+  pub dropping : Bool
+
+-- the same from what the entries are handed
+abbrev pub callOf : ℕ → ℕ → List ℕ → List ℕ → List ℕ → ℕ → Bool → Call
+callOf rows cols codes accumulation outlets place dropping =
+    record { catchment = catchment rows cols codes accumulation outlets; place = place; dropping = dropping }
+
+-- what it is lent to fill: the subaccumulation grid and the list of starts
+pub record Lent : Type 0 where
+  pub subaccumulation : List ℕ
+  pub starts : List ℕ
+
+abbrev pub lent : List ℕ → List ℕ → Lent
+lent subaccumulation starts = record { subaccumulation = subaccumulation; starts = starts }
+
+module _ (q : Call) where
   -- the outlet chosen
   abbrev pub chosen : ℕ
-  chosen = getD outlets place 0
+  chosen = getD (q .catchment .outlets) (q .place) 0
+
+  -- the cells of its subwatershed
+  abbrev pub chosenCells : ℕ
+  chosenCells = subaccumulation (q .catchment .grid) (q .catchment .outlets) chosen
 
   -- what the search tells of it
   abbrev pub chosenTracing : Tracing
-  chosenTracing = tracing dropping grid outlets chosen
+  chosenTracing = tracing (q .dropping) (q .catchment .grid) (q .catchment .outlets) chosen
 
   -- 10, 11 of three grids, 12, 14 to 18
-  abbrev pub chooseChecks : List Check
-  chooseChecks =
-      outletChecks rows cols codes accumulation (length codes ∷ length accumulation ∷ length sub ∷ []) outlets
-      ++ (check18 outlets place ∷ [])
-
-  -- TRACE BY RECURSION: then 19, 21
-  unfoldable pub recursionNumber : ℕ
-  recursionNumber = firstFailed (chooseChecks ++ (check19 grid outlets chosen ∷ check21 chosenTracing starts ∷ []))
-
-  -- TRACE BY STACK: then 20, 21
-  unfoldable pub stackNumber : List ℕ → ℕ
-  stackNumber work = firstFailed (chooseChecks ++ (check20 grid outlets chosen work ∷ check21 chosenTracing starts ∷ []))
-
-  unfoldable pub recursionAnswer : Traced
-  recursionAnswer = tracedBy recursionNumber chosenTracing
-
-  unfoldable pub stackAnswer : List ℕ → Traced
-  stackAnswer work = tracedBy (stackNumber work) chosenTracing
+  abbrev pub callChecks : List ℕ → List Check
+  callChecks sub = placeChecks (q .catchment) (q .place) (length (q .catchment .accumulation) ∷ length sub ∷ [])
 
   -- what either leaves, by its number. The subaccumulation grid is filled once 18 is past: on 0, 19, 20 and 21
-  unfoldable pub traceLeavesSub : ℕ → List ℕ
-  traceLeavesSub number = cond (member number (0 ∷ 19 ∷ 20 ∷ 21 ∷ [])) (overlaid (subaccumulations grid outlets) sub) sub
+  unfoldable pub leavesSubaccumulation : ℕ → List ℕ → List ℕ
+  leavesSubaccumulation number old =
+      cond (member number (0 ∷ 19 ∷ 20 ∷ 21 ∷ []))
+      (overlaid (subaccumulations (q .catchment .grid) (q .catchment .outlets)) old) old
 
   -- the list holds the starts; on 21 as many of the first as it has places
-  unfoldable pub traceLeavesStarts : ℕ → List ℕ
-  traceLeavesStarts number = cond (member number (0 ∷ 21 ∷ [])) (overlaid (chosenTracing .starts) starts) starts
+  unfoldable pub leavesStarts : ℕ → List ℕ → List ℕ
+  leavesStarts number old = cond (member number (0 ∷ 21 ∷ [])) (overlaid (startCells chosenTracing) old) old
 
   -- by stack, on 0 and 21, the working numbers that the search may use are 0 again
-  unfoldable pub traceLeavesWork : ℕ → List ℕ → List ℕ
-  traceLeavesWork number work =
-      cond (member number (0 ∷ 21 ∷ [])) (overlaid (zeros (3 * subaccumulation grid outlets chosen)) work) work
+  unfoldable pub leavesWork : ℕ → List ℕ → List ℕ
+  leavesWork number old = cond (member number (0 ∷ 21 ∷ [])) (overlaid (zeros (numbersEach * chosenCells)) old) old
+
+-- the promise of either, once its number is known
+pub record Traces (q : Call) (old : Lent) (number : ℕ) (r : Traced) (new : Lent) : Type 0 where
+  pub answers : r ≡ tracedBy number (chosenTracing q)
+  pub fills : new .subaccumulation ≡ leavesSubaccumulation q number (old .subaccumulation)
+  pub lists : new .starts ≡ leavesStarts q number (old .starts)
+
+-- ---- TRACE BY RECURSION: then 19, 21
+
+unfoldable pub recursionNumber : Call → Lent → ℕ
+recursionNumber q old = firstFailed (
+    callChecks q (old .subaccumulation)
+    ++ (check19 (chosenCells q) ∷ check21 (chosenTracing q) (old .starts) ∷ [])
+    )
+
+abbrev pub TracesByRecursion : Call → Lent → Traced → Lent → Type 0
+TracesByRecursion q old r new = Traces q old (recursionNumber q old) r new
+
+-- ---- TRACE BY STACK: then 20, 21
+
+unfoldable pub stackNumber : Call → Lent → List ℕ → ℕ
+stackNumber q old work = firstFailed (
+    callChecks q (old .subaccumulation)
+    ++ (check20 (chosenCells q) work ∷ check21 (chosenTracing q) (old .starts) ∷ [])
+    )
+
+pub record TracesByStack (q : Call) (old : Lent) (work : List ℕ) (r : Traced) (new : Lent)
+    (space : List ℕ) : Type 0 where
+  pub traces : Traces q old (stackNumber q old work) r new
+  pub clears : space ≡ leavesWork q (stackNumber q old work) work

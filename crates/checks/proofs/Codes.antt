@@ -9,7 +9,7 @@ use lib.Dec.{eqb}
 use borrow.Author.Tests.{ne-eqb}
 use Rattle.ground.specs.Compass.{Dir, E, SE, S, SW, W, NW, N, NE, codeOf}
 use Rattle.ground.proofs.Cells.{dir-code}
-use Rattle.ground.proofs.Moves.{no-dir}
+use Rattle.moves.proofs.Codes.{no-dir}
 use Rattle.answers.specs.Checks.{isCode}
 
 -- the code of a direction is one

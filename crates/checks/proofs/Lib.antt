@@ -1,5 +1,5 @@
-pub mod Codes
 pub mod Lists
+pub mod Codes
 pub mod Cells
 pub mod Numbers
 pub mod Passed

@@ -1,19 +1,20 @@
 // The checks 10 to 18 of the grid entries. The answer is the number of the first that fails, and 0 if none does.
-use ground::Place;
-use ground::index_of;
-use ground::inflows_of;
-use lengths::wide;
+use inflows::inflows_of;
+use lists::index_of;
+use lists::is_among;
+use lists::wide;
+use moves::Cell;
 ghost use mathlib.Core.Path.{_≡_};
-ghost use mathlib.Core.List.{[], _∷_, _++_};
 ghost use Prim.Native.Nat.{_*_, _+_, _≤_};
-ghost use lib.ListN.{length, getD, drop};
+ghost use lib.ListN.{length, getD};
 ghost use lib.Dec.{eqb, leb};
-ghost use Rattle.ground.specs.Lists.{member, allBelow};
+ghost use Rattle.lists.specs.Lists.{In, allBelow};
 ghost use Rattle.ground.specs.Grid.{gridOf};
-ghost use Rattle.ground.specs.Moves.{HasCell};
 ghost use Rattle.ground.specs.Accumulation.{balance, agrees};
-ghost use Rattle.answers.specs.Checks.{firstFailed, allPass, isSide, isCode, check14, check18, different};
-ghost use Rattle.answers.specs.Entries.{gridChecks, outletChecks};
+ghost use Rattle.moves.specs.Lent.{LentGrid};
+ghost use Rattle.inflows.specs.Values.{HasCell};
+ghost use Rattle.answers.specs.Checks.{firstFailed, allPass, isSide, isCode, different};
+ghost use Rattle.answers.specs.Entries.{catchment, gridChecks, agreedChecks, outletChecks, placeChecks};
 ghost use Rattle.checks.specs.Lent.{Lent, isPlaced};
 
 // 10: is it a number of rows or of columns?
@@ -26,17 +27,18 @@ fn is_side(n: usize) -> bool
     n <= 4096
 }
 
-// 11: has each of three lent grids n places?
-fn all_reach(n: usize, first: usize, second: usize, third: usize) -> bool
-    ensures { λ r. ⌜ r ≡ allPass (λ m. leb n m) (first ∷ second ∷ third ∷ []) ⌝ }
+// 11: has each lent grid n places? The lengths of the grids are given.
+fn all_reach(n: usize, lent: &[usize]) -> bool
+    ensures { λ r. ⌜ r ≡ allPass (λ m. leb n m) (now (lent .entry)) ⌝ }
 {
-    if first < n {
-        return false;
+    let mut i: usize = 0;
+    while i < lent.len() {
+        if lent[i] < n {
+            return false;
+        }
+        i += 1;
     }
-    if second < n {
-        return false;
-    }
-    n <= third
+    true
 }
 
 // 12: is the byte a code?
@@ -64,11 +66,9 @@ pub fn all_codes(codes: &[u8], n: usize) -> bool
     true
 }
 
-// 10, 11, 12. The lengths of the second and the third lent grid are given. No product is taken before 10 is passed.
-pub fn grid_number(rows: usize, cols: usize, codes: &[u8], second: usize, third: usize) -> u32
-    ensures { λ r. ⌜ r
-        ≡ firstFailed (gridChecks rows cols (now (codes .entry))
-        (length (now (codes .entry)) ∷ second ∷ third ∷ [])) ⌝ }
+// 10, 11, 12. The lengths of the other lent grids are given. No product is taken before 10 is passed.
+pub fn grid_number(rows: usize, cols: usize, codes: &[u8], lent: &[usize]) -> u32
+    ensures { λ r. ⌜ r ≡ firstFailed (gridChecks (gridOf rows cols (now (codes .entry))) (now (lent .entry))) ⌝ }
 {
     if !is_side(rows) {
         return 10;
@@ -77,7 +77,10 @@ pub fn grid_number(rows: usize, cols: usize, codes: &[u8], second: usize, third:
         return 10;
     }
     let n = rows * cols;
-    if !all_reach(n, codes.len(), second, third) {
+    if codes.len() < n {
+        return 11;
+    }
+    if !all_reach(n, lent) {
         return 11;
     }
     if !all_codes(codes, n) {
@@ -115,30 +118,30 @@ fn agrees_all(rows: usize, cols: usize, codes: &[u8], accumulation: &[u32]) -> b
     requires { ⌜ Lent rows cols (now codes) (now accumulation) ⌝ }
     ensures { λ r. ⌜ r ≡ agrees (gridOf rows cols (now (codes .entry))) (now (accumulation .entry)) ⌝ }
 {
-    let mut place = Place { row: 0, col: 0 };
-    while place.row < rows {
-        if !agrees_at(rows, cols, codes, accumulation, place.row, place.col) {
+    let mut here = Cell { row: 0, col: 0 };
+    while here.row < rows {
+        if !agrees_at(rows, cols, codes, accumulation, here.row, here.col) {
             return false;
         }
-        place = place.next(cols);
+        here = here.next(cols);
     }
     true
 }
 
-// 10, 11, 12, 14. The length of the third lent grid is given.
+// 10, 11, 12, 14. The lengths of the lent grids but the codes are given, the accumulation's among them.
 pub fn agreed_number(
     rows: usize,
     cols: usize,
     codes: &[u8],
     accumulation: &[u32],
-    third: usize,
+    lent: &[usize],
 ) -> u32
+    requires { ⌜ In (length (now accumulation)) (now lent) ⌝ }
     ensures { λ r. ⌜ r
-        ≡ firstFailed (gridChecks rows cols (now (codes .entry))
-        (length (now (codes .entry)) ∷ length (now (accumulation .entry)) ∷ third ∷ [])
-        ++ (check14 (gridOf rows cols (now (codes .entry))) (now (accumulation .entry)) ∷ [])) ⌝ }
+        ≡ firstFailed (agreedChecks (gridOf rows cols (now (codes .entry))) (now (accumulation .entry))
+        (now (lent .entry))) ⌝ }
 {
-    let number = grid_number(rows, cols, codes, accumulation.len(), third);
+    let number = grid_number(rows, cols, codes, lent);
     if number != 0 {
         return number;
     }
@@ -150,7 +153,7 @@ pub fn agreed_number(
 
 // 16: is the outlet the number of a cell with ground? The code is looked up only within the grid.
 pub fn is_placed(rows: usize, cols: usize, codes: &[u8], outlet: u32) -> bool
-    requires { ⌜ (rows ≤ 4096) × (cols ≤ 4096) × (rows * cols ≤ length (now codes)) ⌝ }
+    requires { ⌜ LentGrid rows cols (now codes) ⌝ }
     ensures { λ r. ⌜ r ≡ isPlaced (gridOf rows cols (now (codes .entry))) outlet ⌝ }
 {
     let at = index_of(outlet);
@@ -162,7 +165,7 @@ pub fn is_placed(rows: usize, cols: usize, codes: &[u8], outlet: u32) -> bool
 
 // 16: is each outlet of the list?
 fn all_placed(rows: usize, cols: usize, codes: &[u8], outlets: &[u32]) -> bool
-    requires { ⌜ (rows ≤ 4096) × (cols ≤ 4096) × (rows * cols ≤ length (now codes)) ⌝ }
+    requires { ⌜ LentGrid rows cols (now codes) ⌝ }
     ensures { λ r. ⌜ r ≡ allPass (isPlaced (gridOf rows cols (now (codes .entry)))) (now (outlets .entry)) ⌝ }
 {
     let mut j: usize = 0;
@@ -175,27 +178,13 @@ fn all_placed(rows: usize, cols: usize, codes: &[u8], outlets: &[u32]) -> bool
     true
 }
 
-// 17: does the outlet stand in the list again, at a place or after it?
-fn is_among(outlets: &[u32], from: usize, outlet: u32) -> bool
-    ensures { λ r. ⌜ r ≡ member outlet (drop from (now (outlets .entry))) ⌝ }
-{
-    let mut k = from;
-    while k < outlets.len() {
-        if outlets[k] == outlet {
-            return true;
-        }
-        k += 1;
-    }
-    false
-}
-
 // 17: does none stand there twice?
 fn all_different(outlets: &[u32]) -> bool
     ensures { λ r. ⌜ r ≡ different (now (outlets .entry)) ⌝ }
 {
     let mut i: usize = 0;
     while i < outlets.len() {
-        if is_among(outlets, i + 1, outlets[i]) {
+        if is_among(outlets, i + 1, index_of(outlets[i])) {
             return false;
         }
         i += 1;
@@ -203,21 +192,22 @@ fn all_different(outlets: &[u32]) -> bool
     true
 }
 
-// 10, 11, 12, 14, 15, 16, 17. The length of the third lent grid is given.
+// 10, 11, 12, 14, 15, 16, 17. The lengths are given as above.
 pub fn outlets_number(
     rows: usize,
     cols: usize,
     codes: &[u8],
     accumulation: &[u32],
     outlets: &[u32],
-    third: usize,
+    lent: &[usize],
 ) -> u32
+    requires { ⌜ In (length (now accumulation)) (now lent) ⌝ }
     ensures { λ r. ⌜ r
-        ≡ firstFailed (outletChecks rows cols (now (codes .entry)) (now (accumulation .entry))
-        (length (now (codes .entry)) ∷ length (now (accumulation .entry)) ∷ third ∷ [])
-        (now (outlets .entry))) ⌝ }
+        ≡ firstFailed (outletChecks
+        (catchment rows cols (now (codes .entry)) (now (accumulation .entry)) (now (outlets .entry)))
+        (now (lent .entry))) ⌝ }
 {
-    let number = agreed_number(rows, cols, codes, accumulation, third);
+    let number = agreed_number(rows, cols, codes, accumulation, lent);
     if number != 0 {
         return number;
     }
@@ -236,24 +226,23 @@ pub fn outlets_number(
     0
 }
 
-// 10, 11, 12, 14 to 18. The place asked for, counted from 0, is one of the list. The length of the third lent grid is
-// given.
-pub fn chosen_number(
+// 10, 11, 12, 14 to 18. The place asked for, counted from 0, is one of the list. The lengths are given as above.
+pub fn place_number(
     rows: usize,
     cols: usize,
     codes: &[u8],
     accumulation: &[u32],
     outlets: &[u32],
     place: usize,
-    third: usize,
+    lent: &[usize],
 ) -> u32
+    requires { ⌜ In (length (now accumulation)) (now lent) ⌝ }
     ensures { λ r. ⌜ r
-        ≡ firstFailed (outletChecks rows cols (now (codes .entry)) (now (accumulation .entry))
-        (length (now (codes .entry)) ∷ length (now (accumulation .entry)) ∷ third ∷ [])
-        (now (outlets .entry))
-        ++ (check18 (now (outlets .entry)) place ∷ [])) ⌝ }
+        ≡ firstFailed (placeChecks
+        (catchment rows cols (now (codes .entry)) (now (accumulation .entry)) (now (outlets .entry)))
+        place (now (lent .entry))) ⌝ }
 {
-    let number = outlets_number(rows, cols, codes, accumulation, outlets, third);
+    let number = outlets_number(rows, cols, codes, accumulation, outlets, lent);
     if number != 0 {
         return number;
     }

@@ -1,5 +1,5 @@
-// The desk program: a sheet from standard input, its answer to standard output. The file buffer is longer than any sheet,
-// and the text buffer than any answer.
+// The desk program: a sheet from standard input, its answer to standard output. The file buffer is longer than any
+// sheet, and the text buffer than any answer.
 use libc::STDIN_FILENO;
 use libc::STDOUT_FILENO;
 use report::report;

@@ -17,43 +17,19 @@ use Rattle.ground.proofs.Network.{first-out, first-next, first-end, first-induc
 use Rattle.ground.proofs.Subwatersheds.{true-belongs}
 use Rattle.drawing.specs.FlowPath.{FlowPath}
 
-module _ {S : Type 0} (𝓛 : Lengths S) (next : ℕ → Option (Link S)) (outlet : ℕ → Bool) where
-  -- at an outlet the walk is over,
+module _ {S : Type 0} (next : ℕ → Option (Link S)) (outlet : ℕ → Bool) where
+  -- at an outlet the walk is over, at another cell it goes on
   pub walked-out : (n c : ℕ) → outlet c ≡ true → walked next outlet n c ≡ c ∷ []
   unfolding walked
   walked-out zero c e = refl
   walked-out (suc n) c e = rw (e, walked)
 
-  pub belongs-out : (n o c : ℕ) → outlet c ≡ true → belongs 𝓛 next outlet n o c ≡ eqb c o
-  unfolding belongs
-  belongs-out n o c e = rw (first-out 𝓛 next outlet n c e, belongs)
+  pub walked-next : (c : ℕ) → outlet c ≡ false → (n : ℕ) (h : Link S) → next c ≡ some h
+      → walked next outlet (suc n) c ≡ c ∷ walked next outlet n (h .cell)
+  unfolding walked
+  walked-next c v n h e = rw (v, e, walked)
 
-  module _ (c : ℕ) (v : outlet c ≡ false) where
-    -- at another cell it goes on
-    module _ (n : ℕ) (h : Link S) (e : next c ≡ some h) where
-      pub walked-next : walked next outlet (suc n) c ≡ c ∷ walked next outlet n (h .cell)
-      unfolding walked
-      walked-next = rw (v, e, walked)
-
-      pub belongs-next : (o : ℕ) → belongs 𝓛 next outlet (suc n) o c ≡ belongs 𝓛 next outlet n o (h .cell)
-      unfolding belongs
-      belongs-next o = go (firstOutlet 𝓛 next outlet n (h .cell)) refl
-        where
-          first : firstOutlet 𝓛 next outlet (suc n) c ≡ longer 𝓛 (h .step) (firstOutlet 𝓛 next outlet n (h .cell))
-          first = first-next 𝓛 next outlet n c h v e
-
-          go : (r : Option (At (𝓛 .Len))) → firstOutlet 𝓛 next outlet n (h .cell) ≡ r
-              → belongs 𝓛 next outlet (suc n) o c ≡ belongs 𝓛 next outlet n o (h .cell)
-          go none f = rw (first, f, belongs)
-          go (some a) f = rw (first, f, belongs)
-
-    -- or ends, and has come to no outlet
-    pub belongs-end : (n o : ℕ) → next c ≡ none → belongs 𝓛 next outlet n o c ≡ false
-    unfolding belongs
-    belongs-end n o e = rw (first-end 𝓛 next outlet n c v e, belongs)
-
-  -- ---- the flow path
-
+  -- a flow path of one cell,
   path-one : (c : ℕ) → FlowPath next outlet c c (c ∷ [])
   path-one c = record {
     some-cell = omega arith;
@@ -63,7 +39,7 @@ module _ {S : Type 0} (𝓛 : Lengths S) (next : ℕ → Option (Link S)) (outle
     arrives = refl;
   }
 
-  -- a cell before it that flows to its start, and is no outlet
+  -- and of one more before it that flows to its start, and is no outlet
   path-more : (o c : ℕ) (h : Link S) (cells : List ℕ) → outlet c ≡ false → next c ≡ some h
       → FlowPath next outlet o (h .cell) cells → FlowPath next outlet o c (c ∷ cells)
   path-more o c h cells v e p = record {
@@ -87,10 +63,36 @@ module _ {S : Type 0} (𝓛 : Lengths S) (next : ℕ → Option (Link S)) (outle
       ends [] i q = absurd (omega arith)
       ends (x ∷ xs) i q = simp unary-clauses (simp unary-clauses at q)
 
-  -- THE WALK TO AN OUTLET IS A FLOW PATH
-  pub flow-path : (n o c : ℕ) → belongs 𝓛 next outlet n o c ≡ true → FlowPath next outlet o c (walked next outlet n c)
-  flow-path n o c b = let r = true-belongs 𝓛 next outlet n o c b in
-      first-induct 𝓛 next outlet (λ m x a. FlowPath next outlet (a .cell) x (walked next outlet m x))
-      (λ m x v. rw (walked-out m x v) (path-one x))
-      (λ m x h a v e f p. rw (walked-next x v m h e) (path-more (a .cell) x h (walked next outlet m (h .cell)) v e p))
-      n c (record { cell = o; len = r .0 }) (r .1)
+  module _ (𝓛 : Lengths S) where
+    -- whether the walk comes to an outlet first: at that one, or another, it does or not,
+    pub belongs-out : (n o c : ℕ) → outlet c ≡ true → belongs 𝓛 next outlet n o c ≡ eqb c o
+    unfolding belongs
+    belongs-out n o c e = rw (first-out 𝓛 next outlet n c e, belongs)
+
+    module _ (c : ℕ) (v : outlet c ≡ false) where
+      -- from another cell as from the next,
+      pub belongs-next : (n : ℕ) (h : Link S) → next c ≡ some h → (o : ℕ)
+          → belongs 𝓛 next outlet (suc n) o c ≡ belongs 𝓛 next outlet n o (h .cell)
+      unfolding belongs
+      belongs-next n h e o = go (firstOutlet 𝓛 next outlet n (h .cell)) refl
+        where
+          first : firstOutlet 𝓛 next outlet (suc n) c ≡ longer 𝓛 (h .step) (firstOutlet 𝓛 next outlet n (h .cell))
+          first = first-next 𝓛 next outlet n c h v e
+
+          go : (r : Option (At (𝓛 .Len))) → firstOutlet 𝓛 next outlet n (h .cell) ≡ r
+              → belongs 𝓛 next outlet (suc n) o c ≡ belongs 𝓛 next outlet n o (h .cell)
+          go none f = rw (first, f, belongs)
+          go (some a) f = rw (first, f, belongs)
+
+      -- and at its end not
+      pub belongs-end : (n o : ℕ) → next c ≡ none → belongs 𝓛 next outlet n o c ≡ false
+      unfolding belongs
+      belongs-end n o e = rw (first-end 𝓛 next outlet n c v e, belongs)
+
+    -- THE WALK TO AN OUTLET IS A FLOW PATH
+    pub flow-path : (n o c : ℕ) → belongs 𝓛 next outlet n o c ≡ true → FlowPath next outlet o c (walked next outlet n c)
+    flow-path n o c b = let r = true-belongs 𝓛 next outlet n o c b in
+        first-induct 𝓛 next outlet (λ m x a. FlowPath next outlet (a .cell) x (walked next outlet m x))
+        (λ m x v. rw (walked-out m x v) (path-one x))
+        (λ m x h a v e f p. rw (walked-next x v m h e) (path-more (a .cell) x h (walked next outlet m (h .cell)) v e p))
+        n c (record { cell = o; len = r .0 }) (r .1)

@@ -3,21 +3,22 @@
 use mathlib.Core.Path.{_≡_, refl, sym, ap, _∙_}
 use mathlib.Core.Bool.{Bool}
 use mathlib.Core.List.{List, [], _∷_, _++_, map-append}
-use Prim.Native.Nat.{ℕ, zero, suc, _+_, _-_, _*_, _≤_, _<_, _^_}
-use native.Mathlib.Nat.{mul-le-mul}
+use Prim.Native.Nat.{ℕ, zero, suc, _-_, _≤_, _<_, _^_}
 use native.Mathlib.Omega.{arith}
 use lib.ListN.{length, getD, set, drop, length-append, length-drop}
 use lib.Arith.{digits-lt}
-use lib.Seq.{ext-getD, drop-cons, set-at, append-snoc, take-all}
-use Rattle.ground.specs.declared.Walk.{Walk}
-use Rattle.ground.specs.Lists.{upTo}
-use Rattle.ground.specs.Grid.{Grid, gridOf, next}
-use Rattle.ground.specs.Moves.{OnGrid, WalkedOn}
+use lib.Seq.{ext-getD, drop-cons, set-at, append-snoc}
+use Rattle.lists.specs.Lists.{upTo}
+use Rattle.lists.specs.Slices.{overlaid}
+use Rattle.lists.proofs.Overlaid.{overlaid-front}
+use Rattle.ground.specs.Grid.{Grid, next}
 use Rattle.ground.proofs.Cells.{in-rows}
 use Rattle.ground.proofs.Ground.{grid-length, grid-at}
-use Rattle.answers.specs.Entries.{overlaid}
+use Rattle.moves.specs.declared.Walk.{Walk}
+use Rattle.moves.specs.Walks.{OnGrid, WalkedOn}
+use Rattle.moves.proofs.Spots.{size}
 use Rattle.drawing.specs.FlowPath.{FlowPath}
-use Rattle.drawing.specs.Cells.{cellOn, cellAfter, firstCells, Drawable}
+use Rattle.drawing.specs.Cells.{cellOf, BeginsAt, cellOn, cellAfter, firstCells, Drawable}
 use Rattle.drawing.proofs.Stepping.{steps, on-cell, at-most-one}
 
 module _ (g : Grid) (start : ℕ) where
@@ -64,82 +65,65 @@ module _ (g : Grid) (start : ℕ) where
         ∙ ap (λ (l : List ℕ). l ++ drop (suc n) old) (sym (cells-more n)))
 
     pub written-all : (n : ℕ) → n ≤ length old → written n ≡ overlaid (firstCells g start n) old
-    unfolding overlaid
-    written-all n h = sym (
-        ap (λ (l : List ℕ). l ++ drop (length (firstCells g start n)) old)
-        (take-all (length old) (firstCells g start n) (omega (arith, cells-length n)))
-        ∙ ap (λ (m : ℕ). firstCells g start n ++ drop m old) (cells-length n)
-        )
+    written-all n h = ap (λ (m : ℕ). firstCells g start n ++ drop m old) (sym (cells-length n))
+        ∙ sym (overlaid-front (firstCells g start n) old (omega (arith, cells-length n)))
 
 -- while `left` cells are still to be written
-pub record Writing (rows cols : ℕ) (codes : List ℕ) (start count : ℕ) (old new : List ℕ) (w : Walk) (left : ℕ)
-    : Type 0 where
+pub record Writing (g : Grid) (start count : ℕ) (old new : List ℕ) (w : Walk) (left : ℕ) : Type 0 where
   pub at-most : left ≤ count
-  pub is-cell : w .row * cols + w .col ≡ cellAfter (gridOf rows cols codes) start (count - left)
-  pub row-in : w .row < rows
-  pub col-in : w .col < cols
+  pub is-cell : cellOf (g .cols) w ≡ cellAfter g start (count - left)
+  pub row-in : w .row < g .rows
+  pub col-in : w .col < g .cols
   pub few : steps w ≤ count - left
-  pub is-written : new ≡ written (gridOf rows cols codes) start old (count - left)
+  pub is-written : new ≡ written g start old (count - left)
 
-module _ {rows cols : ℕ} {codes : List ℕ} {start count : ℕ} (old : List ℕ)
-    (d : Drawable rows cols codes start count (length old)) where
-  pub small : rows * cols ≤ 2 ^ 24
-  small = mul-le-mul (d .rows-small) (d .cols-small)
-
-  pub writing-none : {w : Walk}
-      → (w .row * cols + w .col ≡ start) × (w .col < cols) × (w .straight ≡ 0) × (w .diagonal ≡ 0)
-      → Writing rows cols codes start count old old w count
+module _ {g : Grid} {start count : ℕ} {old : List ℕ} (d : Drawable g start count (length old)) where
+  pub writing-none : {w : Walk} → BeginsAt (g .cols) start w → Writing g start count old old w count
   unfolding cellAfter
-  writing-none {w} (is, c, z, y) =
+  writing-none {w} b =
       let e : 0 ≡ count - count = omega arith in
+      let z : steps w ≡ 0 = rw (b .no-steps) in
       record {
         at-most = omega arith;
-        is-cell = is ∙ ap (cellAfter (gridOf rows cols codes) start) e;
-        row-in = in-rows (w .row) (w .col) rows cols (omega (arith, is, d .start-in));
-        col-in = c;
-        few = omega (arith, z, y);
-        is-written = written-none (gridOf rows cols codes) start old ∙ ap (written (gridOf rows cols codes) start old) e;
+        is-cell = b .is-cell ∙ ap (cellAfter g start) e;
+        row-in = in-rows (w .row) (w .col) (g .rows) (g .cols) (omega (arith, b .is-cell, d .start-in));
+        col-in = b .col-in;
+        few = omega (arith, z);
+        is-written = written-none g start old ∙ ap (written g start old) e;
       }
 
-  module _ {new : List ℕ} {w : Walk} {left : ℕ} (i : Writing rows cols codes start count old new w left) where
+  module _ {new : List ℕ} {w : Walk} {left : ℕ} (i : Writing g start count old new w left) where
     pub long : length new ≡ length old
-    long = ap length (i .is-written)
-        ∙ written-length (gridOf rows cols codes) start old (count - left) (omega (arith, d .has-room))
+    long = ap length (i .is-written) ∙ written-length g start old (count - left) (omega (arith, d .has-room))
 
-    pub inside : w .row * cols + w .col < 2 ^ 24
-    inside = omega (arith, small, digits-lt (i .row-in) (i .col-in))
+    pub inside : cellOf (g .cols) w < 2 ^ 24
+    inside = omega (arith, size (d .grid .sides), digits-lt (i .row-in) (i .col-in))
 
-    pub writing-on-grid : 0 < left → OnGrid rows cols codes w
+    pub writing-on-grid : 0 < left → OnGrid (g .rows) (g .cols) (g .codes) w
     writing-on-grid h = record {
-      rows-small = d .rows-small;
-      cols-small = d .cols-small;
-      has-codes = d .has-codes;
-      row-in = i .row-in;
-      col-in = i .col-in;
-      straight-small = omega (arith, small, i .few, i .at-most, h, d .few);
-      diagonal-small = omega (arith, small, i .few, i .at-most, h, d .few);
+      on = record { grid = d .grid; row-in = i .row-in; col-in = i .col-in };
+      straight-small = omega (arith, size (d .grid .sides), i .few, i .at-most, h, d .few);
+      diagonal-small = omega (arith, size (d .grid .sides), i .few, i .at-most, h, d .few);
     }
 
-    pub writing-more : 0 < left → {cell : ℕ} → cell ≡ w .row * cols + w .col → {r : Walk} → WalkedOn rows cols codes w r
-        → Writing rows cols codes start count old (set new (count - left) cell) r (left - 1)
+    pub writing-more : 0 < left → {cell : ℕ} → cell ≡ cellOf (g .cols) w
+        → {r : Walk} → WalkedOn (g .rows) (g .cols) (g .codes) w r
+        → Writing g start count old (set new (count - left) cell) r (left - 1)
     unfolding cellAfter
     writing-more h {cell} is {r} on =
         let e : suc (count - left) ≡ count - (left - 1) = omega (arith, h, i .at-most) in
         record {
           at-most = omega (arith, i .at-most);
-          is-cell = on-cell on ∙ ap (cellOn (gridOf rows cols codes)) (i .is-cell)
-              ∙ ap (cellAfter (gridOf rows cols codes) start) e;
+          is-cell = on-cell g on ∙ ap (cellOn g) (i .is-cell) ∙ ap (cellAfter g start) e;
           row-in = on .row-in;
           col-in = on .col-in;
-          few = omega (arith, at-most-one on, i .few, h, i .at-most);
+          few = omega (arith, at-most-one g on, i .few, h, i .at-most);
           is-written = rw (is, i .is-cell, i .is-written)
-              (written-more (gridOf rows cols codes) start old (count - left)
-              (omega (arith, h, i .at-most, d .has-room))
-              ∙ ap (written (gridOf rows cols codes) start old) e);
+              (written-more g start old (count - left) (omega (arith, h, i .at-most, d .has-room))
+              ∙ ap (written g start old) e);
         }
 
-    pub writing-all : left ≤ 0 → new ≡ overlaid (firstCells (gridOf rows cols codes) start count) old
+    pub writing-all : left ≤ 0 → new ≡ overlaid (firstCells g start count) old
     writing-all h =
         let e : count - left ≡ count = omega (arith, h) in
-        i .is-written ∙ ap (written (gridOf rows cols codes) start old) e
-        ∙ written-all (gridOf rows cols codes) start old count (d .has-room)
+        i .is-written ∙ ap (written g start old) e ∙ written-all g start old count (d .has-room)

@@ -7,26 +7,28 @@ use mathlib.Core.List.{List, [], _∷_}
 use mathlib.Core.Option.{Option, some}
 use Prim.Native.Nat.{ℕ, zero, suc, _+_, _≤_}
 use native.Mathlib.Omega.{arith}
-use Rattle.ground.specs.Lists.{Every}
+use Rattle.lists.specs.Lists.{Every}
 use Rattle.ground.specs.Grid.{Link}
 use Rattle.ground.specs.Walk.{ends}
 use Rattle.ground.specs.Accumulation.{total, gathered}
-use Rattle.ground.proofs.Lists.{every-map}
+use Rattle.lists.proofs.Lists.{every-map}
 use Rattle.ground.proofs.Network.{Network}
 use Rattle.ground.proofs.Agreement.{Agrees, noOutlet, agrees-is, fewer-next}
 use Rattle.ground.proofs.Endings.{free-agrees, agrees-free}
 use Rattle.filling.specs.Packed.{waiting, Packed}
 use Rattle.filling.proofs.Totals.{ones-none}
 
-module _ {S : Type 0} {next : ℕ → Option (Link S)} {ups : ℕ → List (Link S)} {ground : ℕ → Bool} {places : ℕ}
-    (𝓝 : Network next ups ground places) {flag word : ℕ → ℕ} (p : Packed ups ground places flag word places noOutlet) where
+module _ {S : Type 0} {next : ℕ → Option (Link S)} {ups : ℕ → List (Link S)} {ground : ℕ → Bool} {cellCount : ℕ}
+    (𝓝 : Network next ups ground cellCount) {flag word : ℕ → ℕ}
+    (p : Packed ups ground cellCount flag word cellCount noOutlet) where
   -- all headwaters were looked at, so what waits for nothing is passed down
   settled : (x : ℕ) → ground x ≡ true → waiting ups (p .passed) x ≡ 0 → p .passed x ≡ true
   settled x v l = p .is-passed x v l refl (λ h q. omega (arith, 𝓝 .bounded x v))
 
   -- what holds of ground holds of the inflows
   every-up : (P : ℕ → Type 0) (x : ℕ)
-      → ((k : Link S) → next (k .cell) ≡ some (record { cell = x; step = k .step }) → ground (k .cell) ≡ true → P (k .cell))
+      → ((k : Link S) → next (k .cell) ≡ some (record { cell = x; step = k .step }) → ground (k .cell) ≡ true
+      → P (k .cell))
       → Every (λ k. P (k .cell)) (ups x)
   every-up P x f = every-map (λ k. next (k .cell) ≡ some (record { cell = x; step = k .step })) (λ k. P (k .cell))
       (λ k e. f k e (𝓝 .solid (k .cell) (record { cell = x; step = k .step }) e)) (ups x) (𝓝 .sound x)
@@ -43,16 +45,16 @@ module _ {S : Type 0} {next : ℕ → Option (Link S)} {ups : ℕ → List (Link
         go [] s = refl
         go (k ∷ ks) s = rw (ap not (s .0), total) (ap (λ (n : ℕ). p .partial (k .cell) + n) (go ks (s .1)))
 
-    pub settled-word : (x : ℕ) → ground x ≡ true → word x ≡ flag x + gathered ups noOutlet places x
+    pub settled-word : (x : ℕ) → ground x ≡ true → word x ≡ flag x + gathered ups noOutlet cellCount x
     settled-word x v = omega (
       arith,
       p .is-word x v,
       none x v,
-      agrees-is next ups ground places 𝓝 (p .partial) partial-agrees x v,
+      agrees-is next ups ground cellCount 𝓝 (p .partial) partial-agrees x v,
     )
 
-    pub settled-ends : (x : ℕ) → ground x ≡ true → ends next places x ≡ true
-    settled-ends = agrees-free next ups ground places 𝓝 (p .partial) partial-agrees
+    pub settled-ends : (x : ℕ) → ground x ≡ true → ends next cellCount x ≡ true
+    settled-ends = agrees-free next ups ground cellCount 𝓝 (p .partial) partial-agrees
 
   -- WHERE EVERY WALK ENDS nothing waits: there is an accumulation, it falls upward, and so by induction on it
   module _ (A : ℕ → ℕ) (agrees : Agrees ups ground A) where
@@ -62,10 +64,10 @@ module _ {S : Type 0} {next : ℕ → Option (Link S)} {ups : ℕ → List (Link
     nothing-waits (suc n) x v h = ones-none ups (p .passed) (ups x) (every-up (λ c. p .passed c ≡ true) x
         (λ k e u. settled (k .cell) u (nothing-waits n (k .cell) u (omega (
           arith,
-          fewer-next next ups ground places 𝓝 A agrees (k .cell) (record { cell = x; step = k .step }) e,
+          fewer-next next ups ground cellCount 𝓝 A agrees (k .cell) (record { cell = x; step = k .step }) e,
         )))))
 
-  pub ends-settled : ((x : ℕ) → ground x ≡ true → ends next places x ≡ true)
+  pub ends-settled : ((x : ℕ) → ground x ≡ true → ends next cellCount x ≡ true)
       → (x : ℕ) → ground x ≡ true → waiting ups (p .passed) x ≡ 0
-  ends-settled free x v = nothing-waits (gathered ups noOutlet places) (free-agrees next ups ground places 𝓝 free)
-      (gathered ups noOutlet places x) x v (omega arith)
+  ends-settled free x v = nothing-waits (gathered ups noOutlet cellCount) (free-agrees next ups ground cellCount 𝓝 free)
+      (gathered ups noOutlet cellCount x) x v (omega arith)

@@ -8,7 +8,7 @@ use Prim.Native.Nat.{ℕ, suc, _+_, _*_, _≤_, _<_, _^_}
 use native.Mathlib.Omega.{arith}
 use lib.Dec.{eqb, ltb}
 use borrow.Author.Tests.{eqb-true, eqb-false, ltb-true, ltb-false, lt-ltb, le-ltb}
-use Rattle.ground.specs.Lists.{Every}
+use Rattle.lists.specs.Lists.{Every}
 use Rattle.ground.specs.Grid.{Link}
 use Rattle.ground.specs.Accumulation.{total}
 use Rattle.ground.proofs.Network.{Network}
@@ -56,20 +56,20 @@ none-before : {S : Type 0} (ups : ℕ → List (Link S)) (ks : List (Link S))
 none-before ups [] = refl
 none-before ups (k ∷ ks) = rw (ap not (le-ltb (k .cell) 0 (omega arith)), total) (none-before ups ks)
 
-module _ {S : Type 0} {next : ℕ → Option (Link S)} {ups : ℕ → List (Link S)} {ground : ℕ → Bool} {places : ℕ}
-    (𝓝 : Network next ups ground places) {flag : ℕ → ℕ} where
+module _ {S : Type 0} {next : ℕ → Option (Link S)} {ups : ℕ → List (Link S)} {ground : ℕ → Bool} {cellCount : ℕ}
+    (𝓝 : Network next ups ground cellCount) {flag : ℕ → ℕ} where
   -- on a grid of flags nothing is counted
   pub count-begin : {word : ℕ → ℕ} → ((x : ℕ) → ground x ≡ true → word x ≡ flag x)
-      → ((x : ℕ) → x < places → ground x ≡ false → word x ≡ 0) → Counting ups ground places flag word 0 0
+      → ((x : ℕ) → x < cellCount → ground x ≡ false → word x ≡ 0) → Counting ups ground cellCount flag word 0 0
   count-begin h n = record {
     is-word = λ x v. omega (arith, h x v, none-before ups (ups x), own-out 0 x (omega arith));
     null-word = n;
   }
 
-  module _ {word : ℕ → ℕ} {m n : ℕ} (c : Counting ups ground places flag word m n) where
+  module _ {word : ℕ → ℕ} {m n : ℕ} (c : Counting ups ground cellCount flag word m n) where
     -- a cell counts itself,
     pub count-own : {word′ : ℕ → ℕ} → ground n ≡ true → word′ n ≡ word n + 1
-        → ((x : ℕ) → (x ≡ n → ⊥) → word′ x ≡ word x) → Counting ups ground places flag word′ m (suc n)
+        → ((x : ℕ) → (x ≡ n → ⊥) → word′ x ≡ word x) → Counting ups ground cellCount flag word′ m (suc n)
     count-own {word′} v at else = record {
       is-word = λ x u. go x u (eqb x n) refl;
       null-word = λ x h u. else x (λ q. true≢false (sym v ∙ ap ground (sym q) ∙ u)) ∙ c .null-word x h u;
@@ -83,7 +83,7 @@ module _ {S : Type 0} {next : ℕ → Option (Link S)} {ups : ℕ → List (Link
             (omega (arith, at, c .is-word n v, own-in (suc n) n (omega arith), own-out n n (omega arith)))
         go x u false q = omega (arith, else x (eqb-false x n q), c .is-word x u, own-other n x (eqb-false x n q))
 
-    pub count-null : ground n ≡ false → Counting ups ground places flag word m (suc n)
+    pub count-null : ground n ≡ false → Counting ups ground cellCount flag word m (suc n)
     count-null v = record {
       is-word = λ x u. omega (arith, c .is-word x u, own-other n x (λ q. true≢false (sym u ∙ ap ground q ∙ v)));
       null-word = c .null-word;
@@ -102,7 +102,7 @@ module _ {S : Type 0} {next : ℕ → Option (Link S)} {ups : ℕ → List (Link
 
     -- and is counted by the cell that it flows to
     pub count-below : {word′ : ℕ → ℕ} {h : Link S} → next m ≡ some h → word′ (h .cell) ≡ word (h .cell) + 2 ^ 25
-        → ((x : ℕ) → (x ≡ h .cell → ⊥) → word′ x ≡ word x) → Counting ups ground places flag word′ (suc m) n
+        → ((x : ℕ) → (x ≡ h .cell → ⊥) → word′ x ≡ word x) → Counting ups ground cellCount flag word′ (suc m) n
     count-below {word′} {h} e at else = record {
       is-word = λ x u. go x u (eqb x (h .cell)) refl;
       null-word = λ x b u. else x (λ q. true≢false (sym (𝓝 .lands m h e) ∙ ap ground (sym q) ∙ u)) ∙ c .null-word x b u;
@@ -126,7 +126,7 @@ module _ {S : Type 0} {next : ℕ → Option (Link S)} {ups : ℕ → List (Link
         go x u false q = let f = eqb-false x (h .cell) q in
             omega (arith, else x f, c .is-word x u, not-counted x (miss x f))
 
-    pub count-nowhere : next m ≡ none → Counting ups ground places flag word (suc m) n
+    pub count-nowhere : next m ≡ none → Counting ups ground cellCount flag word (suc m) n
     count-nowhere e = record {
       is-word = λ x u. omega (
         arith,
@@ -137,15 +137,16 @@ module _ {S : Type 0} {next : ℕ → Option (Link S)} {ups : ℕ → List (Link
     }
 
   -- ALL COUNTED: every inflow waits, and nothing is passed down
-  pub count-all : {word : ℕ → ℕ} → Counting ups ground places flag word places places
-      → Packed ups ground places flag word 0 noOutlet
+  pub count-all : {word : ℕ → ℕ} → Counting ups ground cellCount flag word cellCount cellCount
+      → Packed ups ground cellCount flag word 0 noOutlet
   count-all c = begin 𝓝
-      (λ x v. omega (arith, c .is-word x v, own-in places x (𝓝 .bounded x v), all x (ups x) (𝓝 .sound x)))
+      (λ x v. omega (arith, c .is-word x v, own-in cellCount x (𝓝 .bounded x v), all x (ups x) (𝓝 .sound x)))
       (c .null-word)
     where
       all : (x : ℕ) (ks : List (Link S)) → Every (λ k. next (k .cell) ≡ some (record { cell = x; step = k .step })) ks
-          → total ups (λ c. not (ltb c places)) oneEach ks ≡ total ups noOutlet oneEach ks
+          → total ups (λ c. not (ltb c cellCount)) oneEach ks ≡ total ups noOutlet oneEach ks
       all x [] s = refl
       all x (k ∷ ks) s =
           let v = 𝓝 .solid (k .cell) (record { cell = x; step = k .step }) (s .0) in
-          rw (ap not (lt-ltb (k .cell) places (𝓝 .bounded (k .cell) v)), total) (ap (λ (n : ℕ). 1 + n) (all x ks (s .1)))
+          rw (ap not (lt-ltb (k .cell) cellCount (𝓝 .bounded (k .cell) v)), total)
+          (ap (λ (n : ℕ). 1 + n) (all x ks (s .1)))

@@ -14,7 +14,8 @@ use Rattle.ground.specs.Grid.{Grid, gridOf, ground, next}
 use Rattle.ground.proofs.Cells.{ground-within}
 use Rattle.ground.proofs.GridNetwork.{network}
 use Rattle.filling.specs.Packed.{Counting}
-use Rattle.filling.specs.Filling.{Fillable, Flows, flagOf, nextCut, upsCut, Counted}
+use Rattle.filling.specs.Filling.{Fillable, flagOf, nextCut, upsCut, Counted}
+use Rattle.moves.specs.Walks.{Flows}
 use Rattle.filling.proofs.Counting.{own-le, count-own, count-null, count-below, count-nowhere}
 use Rattle.filling.proofs.Flags.{
   flag-le,
@@ -66,7 +67,7 @@ module _ {rows cols : ℕ} {codes outlets l : List ℕ} (f : Fillable rows cols 
         (suc x)
     unfolding Counted
     counts-itself = count-own (cut-network land outlets) c here-ground
-        (getD-set-same l x (getD l x 0 + 1) 0 (omega (arith, f .has-grid)))
+        (getD-set-same l x (getD l x 0 + 1) 0 (omega (arith, f .has-words)))
         (λ y n. getD-set-other l x y (getD l x 0 + 1) 0 n)
 
     ended : nextCut land outlets x ≡ none → Counted land outlets own (x + 1)
@@ -101,5 +102,5 @@ module _ {rows cols : ℕ} {codes outlets l : List ℕ} (f : Fillable rows cols 
       counted-on h = rw (add-one x) (count-below (cut-network land outlets) counts-itself
           (cut-plain land outlets x (omega (arith, word-bounds)) ∙ to .1)
           (getD-set-same own z (getD own z 0 + 2 ^ 25) 0
-          (omega (arith, ground-within land z z-ground, length-set l x (getD l x 0 + 1), f .has-grid)))
+          (omega (arith, ground-within land z z-ground, length-set l x (getD l x 0 + 1), f .has-words)))
           (λ y n. getD-set-other own z y (getD own z 0 + 2 ^ 25) 0 n))

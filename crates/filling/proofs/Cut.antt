@@ -9,7 +9,7 @@ use native.Mathlib.Omega.{arith}
 use borrow.Author.Tests.{not-true}
 use Rattle.ground.specs.Grid.{Link}
 use Rattle.ground.specs.Accumulation.{total, gathered}
-use Rattle.ground.proofs.Lists.{every-in, every-is, in-only, only-in}
+use Rattle.lists.proofs.Lists.{every-in, every-is, in-only, only-in}
 use Rattle.ground.proofs.Network.{Network, times, total-same}
 use Rattle.ground.proofs.Agreement.{noOutlet}
 use Rattle.filling.specs.Cut.{cutNext, uncut, cutUps}
@@ -53,13 +53,14 @@ module _ {S : Type 0} (isCut : ℕ → Bool) where
   pub gathered-cut : (ups : ℕ → List (Link S)) (n x : ℕ)
       → gathered (cutUps isCut ups) noOutlet n x ≡ gathered ups isCut n x
   gathered-cut ups zero x = refl
-  gathered-cut ups (suc n) x = ap suc (total-uncut ups (cutUps isCut ups) (gathered (cutUps isCut ups) noOutlet n) (ups x)
+  gathered-cut ups (suc n) x = ap suc (total-uncut ups (cutUps isCut ups) (gathered (cutUps isCut ups) noOutlet n)
+      (ups x)
       ∙ total-same ups isCut (gathered (cutUps isCut ups) noOutlet n) (gathered ups isCut n) (ups x)
       (every-is (λ k. gathered (cutUps isCut ups) noOutlet n (k .cell) ≡ gathered ups isCut n (k .cell)) (ups x)
       (λ k i. gathered-cut ups n (k .cell))))
 
-  pub cut : {next : ℕ → Option (Link S)} {ups : ℕ → List (Link S)} {ground : ℕ → Bool} {places : ℕ}
-      → Network next ups ground places → Network (cutNext isCut next) (cutUps isCut ups) ground places
+  pub cut : {next : ℕ → Option (Link S)} {ups : ℕ → List (Link S)} {ground : ℕ → Bool} {cellCount : ℕ}
+      → Network next ups ground cellCount → Network (cutNext isCut next) (cutUps isCut ups) ground cellCount
   cut {next} {ups} 𝓝 = record {
     sound = λ x. every-is (λ k. cutNext isCut next (k .cell) ≡ some (record { cell = x; step = k .step }))
         (uncut isCut (ups x)) (λ k i. let p = in-only (λ k. not (isCut (k .cell))) k (ups x) i in

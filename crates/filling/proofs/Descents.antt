@@ -10,15 +10,17 @@ use native.Mathlib.Numerals.{add-one}
 use native.Mathlib.Omega.{arith}
 use lib.ListN.{length, getD, set}
 use lib.Seq.{getD-set-same, getD-set-other}
-use Rattle.ground.specs.declared.Spot.{Spot}
-use Rattle.ground.specs.declared.Spot.the-variants.{Off, On}
-use Rattle.ground.specs.Lists.{sumOf}
-use Rattle.ground.specs.Grid.{Grid, gridOf, places, ground, next}
+use Rattle.moves.specs.declared.Spot.{Spot}
+use Rattle.moves.specs.declared.Spot.the-variants.{Off, On}
+use Rattle.lists.specs.Lists.{sumOf}
+use Rattle.ground.specs.Grid.{Grid, gridOf, cellCount, ground, next}
 use Rattle.ground.proofs.Cells.{ground-within}
 use Rattle.filling.specs.Packed.{Packed}
-use Rattle.filling.specs.Filling.{Fillable, Flows, flagOf, Kept, nextCut, upsCut, Looked, Down, Going, Passed}
+use Rattle.filling.specs.Filling.{Fillable, flagOf, nextCut, upsCut, Looked, Down, Going, Passed}
+use Rattle.moves.specs.Walks.{Flows}
+use Rattle.lists.specs.Slices.{Kept}
 use Rattle.filling.proofs.Passing.{
-  partial-places,
+  partial-at-most,
   look-on,
   look-head,
   pass-end,
@@ -36,22 +38,22 @@ use Rattle.filling.proofs.Flags.{
   plain,
   cut-end,
 }
-use Rattle.filling.proofs.Steps.{off-on}
+use Rattle.moves.proofs.Spots.{off-on}
 use Rattle.filling.proofs.Counts.{flows-ground}
-use Rattle.filling.proofs.Kept.{kept-all, kept-then, sum-set}
+use Rattle.lists.proofs.Kept.{kept-all, kept-then, sum-set}
 
 -- the bounds of a word
 pub word-bounds : (g : Grid) (outlets l : List ℕ) {i : ℕ} {busy : ℕ → Bool}
-    → Packed (upsCut g outlets) (ground g) (places g) (flagOf outlets) (λ y. getD l y 0) i busy
+    → Packed (upsCut g outlets) (ground g) (cellCount g) (flagOf outlets) (λ y. getD l y 0) i busy
     → (x : ℕ) → ground g x ≡ true
-    → (flagOf outlets x < getD l x 0) × (getD l x 0 ≤ flagOf outlets x + (8 * 2 ^ 25 + places g))
+    → (flagOf outlets x < getD l x 0) × (getD l x 0 ≤ flagOf outlets x + (8 * 2 ^ 25 + cellCount g))
 word-bounds g outlets l p x v = (
   omega (arith, p .is-word x v, p .is-partial x v),
   omega (
     arith,
     p .is-word x v,
     cut-few g outlets (p .passed) x,
-    partial-places (cut-network g outlets) p x v,
+    partial-at-most (cut-network g outlets) p x v,
   ),
 )
 
@@ -60,7 +62,7 @@ module _ {rows cols : ℕ} {codes outlets l : List ℕ} (f : Fillable rows cols 
   land = gridOf rows cols codes
 
   small : rows * cols ≤ 4096 * 4096
-  small = mul-le-mul (f .rows-small) (f .cols-small)
+  small = mul-le-mul (f .grid .sides .rows-small) (f .grid .sides .cols-small)
 
   -- ---- a cell is looked at
 
@@ -99,7 +101,7 @@ module _ {rows cols : ℕ} {codes outlets l : List ℕ} (f : Fillable rows cols 
         arith,
         d .held .is-word x (d .is-ground),
         d .waits,
-        partial-places (cut-network land outlets) (d .held) x (d .is-ground),
+        partial-at-most (cut-network land outlets) (d .held) x (d .is-ground),
       ),
     )
 
@@ -127,7 +129,7 @@ module _ {rows cols : ℕ} {codes outlets l : List ℕ} (f : Fillable rows cols 
       z-ground = flows-ground land x z to
 
       in-z : z < length l
-      in-z = omega (arith, ground-within land z z-ground, f .has-grid)
+      in-z = omega (arith, ground-within land z z-ground, f .has-words)
 
       z-bounds : (flagOf outlets z < getD l z 0) × (getD l z 0 ≤ flagOf outlets z + (8 * 2 ^ 25 + rows * cols))
       unfolding Down
@@ -168,7 +170,7 @@ module _ {rows cols : ℕ} {codes outlets l : List ℕ} (f : Fillable rows cols 
 -- ---- the way down
 
 module _ {g : Grid} {outlets : List ℕ} {i : ℕ} where
-  ways-end : {l m : List ℕ} → Kept (places g) l m → Looked g outlets m i → Going g outlets i l m Off
+  ways-end : {l m : List ℕ} → Kept (cellCount g) l m → Looked g outlets m i → Going g outlets i l m Off
   ways-end k p = record {
     is-down = λ r c e. absurd (off-on e);
     row-in = λ r c e. absurd (off-on e);
@@ -177,7 +179,7 @@ module _ {g : Grid} {outlets : List ℕ} {i : ℕ} where
     kept = k;
   }
 
-  goes-on : {l m : List ℕ} {row col : ℕ} → Kept (places g) l m → row < g .rows → col < g .cols
+  goes-on : {l m : List ℕ} {row col : ℕ} → Kept (cellCount g) l m → row < g .rows → col < g .cols
       → Down g outlets m i (row * g .cols + col) → Going g outlets i l m (On row col)
   goes-on {m = m} {row = row} {col = col} k r c d = record {
     is-down = λ x y e. let a : row ≡ x = cc in let b : col ≡ y = cc in
@@ -189,10 +191,10 @@ module _ {g : Grid} {outlets : List ℕ} {i : ℕ} where
     kept = k;
   }
 
-  pub passed-off : {l m : List ℕ} → Kept (places g) l m → Looked g outlets m i → Passed g outlets i l m Off
+  pub passed-off : {l m : List ℕ} → Kept (cellCount g) l m → Looked g outlets m i → Passed g outlets i l m Off
   passed-off k p = record { going = ways-end k p; less = λ r c e. absurd (off-on e) }
 
-  pub passed-on : {l m : List ℕ} {row col : ℕ} → Kept (places g) l m → row < g .rows → col < g .cols
+  pub passed-on : {l m : List ℕ} {row col : ℕ} → Kept (cellCount g) l m → row < g .rows → col < g .cols
       → Down g outlets m i (row * g .cols + col) → sumOf m < sumOf l → Passed g outlets i l m (On row col)
   passed-on k r c d h = record { going = goes-on k r c d; less = λ x y e. h }
 

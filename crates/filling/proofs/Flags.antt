@@ -9,9 +9,9 @@ use native.Mathlib.Omega.{arith}
 use lib.ListN.{length, getD}
 use lib.Dec.{eqb}
 use borrow.Author.Tests.{eq-eqb, ne-eqb}
-use Rattle.ground.specs.Lists.{member}
+use Rattle.lists.specs.Lists.{member}
 use Rattle.ground.specs.Compass.{Dir, dirs}
-use Rattle.ground.specs.Grid.{Grid, Link, gridOf, places, ground, next, inflowsFrom, inflows}
+use Rattle.ground.specs.Grid.{Grid, Link, gridOf, cellCount, ground, next, inflowsFrom, inflows}
 use Rattle.ground.specs.Accumulation.{total}
 use Rattle.ground.specs.Subwatershed.{isOutlet}
 use Rattle.ground.proofs.Network.{Network}
@@ -67,7 +67,7 @@ inflows-few g x = go (ground g x) refl
     go false v = rw (null-inflows g x v) (omega arith)
 
 module _ (g : Grid) (outlets : List ℕ) where
-  pub cut-network : Network (nextCut g outlets) (upsCut g outlets) (ground g) (places g)
+  pub cut-network : Network (nextCut g outlets) (upsCut g outlets) (ground g) (cellCount g)
   cut-network = cut (isOutlet g outlets) (network g)
 
   pub cut-few : (skip : ℕ → Bool) (x : ℕ) → total (upsCut g outlets) skip oneEach (upsCut g outlets x) ≤ 8

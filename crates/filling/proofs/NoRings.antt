@@ -2,29 +2,25 @@
 -- does where an accumulation agrees.
 -- Assumes nothing.
 use mathlib.Core.Path.{_≡_, refl, sym, _∙_}
-use mathlib.Core.Bool.{true, false, true≢false}
+use mathlib.Core.Bool.{true, true≢false}
 use mathlib.Core.List.{List, []}
 use mathlib.Core.Option.{Option, none, some}
 use Prim.Native.Nat.{ℕ, zero, suc}
 use Rattle.ground.specs.Compass.{Dir}
-use Rattle.ground.specs.Grid.{Grid, Link, places, next}
+use Rattle.ground.specs.Grid.{Grid, Link, cellCount, next}
 use Rattle.ground.specs.Walk.{ends, ringFree}
-use Rattle.ground.specs.Accumulation.{agrees, accumulations}
+use Rattle.ground.specs.Accumulation.{agrees}
 use Rattle.ground.specs.Subwatershed.{isOutlet}
-use Rattle.ground.proofs.Lists.{all-below, below-all}
+use Rattle.lists.proofs.Lists.{all-below, below-all}
 use Rattle.ground.proofs.Walks.{ends-next, ends-zero, ends-none}
 use Rattle.ground.proofs.Ground.{agrees-free-of-rings}
-use Rattle.answers.specs.Entries.{overlaid}
-use Rattle.filling.specs.Filling.{nextCut, cutFree, filledIf}
+use Rattle.filling.specs.Filling.{nextCut, cutFree}
 use Rattle.filling.proofs.Cut.{cut-step}
 
 -- WITH NO OUTLETS it is the accumulation, and the question is check 13's
 pub free-no-outlets : (g : Grid) → cutFree g [] ≡ ringFree g
 unfolding cutFree ringFree
 free-no-outlets g = refl
-
-pub filled-no-outlets : (g : Grid) (old : List ℕ) → filledIf g [] true old ≡ overlaid (accumulations g) old
-filled-no-outlets g old = refl
 
 module _ (g : Grid) (outlets : List ℕ) where
   -- a walk that ends, ends no later where it is cut
@@ -46,8 +42,8 @@ module _ (g : Grid) (outlets : List ℕ) where
 
   pub ring-free-cut : ringFree g ≡ true → cutFree g outlets ≡ true
   unfolding cutFree ringFree
-  ring-free-cut e = below-all (ends (nextCut g outlets) (places g)) (places g)
-      (λ x h. ends-cut (places g) x (all-below (ends (next g) (places g)) (places g) e x h))
+  ring-free-cut e = below-all (ends (nextCut g outlets) (cellCount g)) (cellCount g)
+      (λ x h. ends-cut (cellCount g) x (all-below (ends (next g) (cellCount g)) (cellCount g) e x h))
 
   -- WHERE AN ACCUMULATION AGREES, as check 14 asks, filling succeeds
   pub agrees-cut-free : (a : List ℕ) → agrees g a ≡ true → cutFree g outlets ≡ true

@@ -8,12 +8,12 @@ use Prim.Native.Nat.{ℕ, suc, _+_, _-_, _*_, _≤_, _<_, _^_}
 use native.Mathlib.Omega.{arith}
 use lib.Dec.{eqb}
 use borrow.Author.Tests.{eqb-true, eqb-false, not-false}
-use Rattle.ground.specs.Lists.{Every}
+use Rattle.lists.specs.Lists.{Every}
 use Rattle.ground.specs.Grid.{Link}
 use Rattle.ground.specs.Accumulation.{total}
 use Rattle.ground.proofs.Sums.{one-other}
 use Rattle.ground.proofs.Network.{Network, times}
-use Rattle.ground.proofs.Agreement.{Agrees, noOutlet, agrees-places}
+use Rattle.ground.proofs.Agreement.{Agrees, noOutlet, agrees-at-most}
 use Rattle.filling.specs.Cut.{cutNext, cutUps}
 use Rattle.filling.specs.Packed.{oneEach, waiting, arrived, Packed, Walking}
 use Rattle.filling.proofs.Totals.{
@@ -30,8 +30,8 @@ use Rattle.filling.proofs.Totals.{
 }
 use Rattle.filling.proofs.Cut.{cut, total-uncut}
 
-module _ {S : Type 0} {next : ℕ → Option (Link S)} {ups : ℕ → List (Link S)} {ground : ℕ → Bool} {places : ℕ}
-    (𝓝 : Network next ups ground places) where
+module _ {S : Type 0} {next : ℕ → Option (Link S)} {ups : ℕ → List (Link S)} {ground : ℕ → Bool} {cellCount : ℕ}
+    (𝓝 : Network next ups ground cellCount) where
   -- a cell is an inflow of the cell that it flows to, once, and of no other
   times-hit : (y : ℕ) (h : Link S) → next y ≡ some h → times y (ups (h .cell)) ≡ 1
   times-hit y h e = omega (
@@ -54,7 +54,8 @@ module _ {S : Type 0} {next : ℕ → Option (Link S)} {ups : ℕ → List (Link
 
   -- the cell y is passed down
   module _ (passed : ℕ → Bool) (y : ℕ) (fresh : passed y ≡ false) where
-    arrived-times : (f : ℕ → ℕ) (x : ℕ) → arrived ups (also passed y) f x ≡ times y (ups x) * f y + arrived ups passed f x
+    arrived-times : (f : ℕ → ℕ) (x : ℕ) → arrived ups (also passed y) f x
+        ≡ times y (ups x) * f y + arrived ups passed f x
     arrived-times f x = total-add ups (λ c. not (passed c)) (λ c. not (also passed y c)) f y (ap not fresh)
         (ap not (also-same passed y y refl)) (λ c n. ap not (also-other passed y c n)) (ups x)
 
@@ -84,10 +85,10 @@ module _ {S : Type 0} {next : ℕ → Option (Link S)} {ups : ℕ → List (Link
   module _ {flag : ℕ → ℕ} where
     -- what is passed down so far is the accumulation of the network cut at the cells that are not: so no partial sum is
     -- larger than the number of places
-    module _ {word : ℕ → ℕ} {looked : ℕ} {busy : ℕ → Bool} (p : Packed ups ground places flag word looked busy) where
-      pub partial-places : (x : ℕ) → ground x ≡ true → p .partial x ≤ places
+    module _ {word : ℕ → ℕ} {looked : ℕ} {busy : ℕ → Bool} (p : Packed ups ground cellCount flag word looked busy) where
+      pub partial-at-most : (x : ℕ) → ground x ≡ true → p .partial x ≤ cellCount
       unfolding Agrees
-      partial-places x v = agrees-places (cutNext off next) (cutUps off ups) ground places (cut off 𝓝) (p .partial)
+      partial-at-most x v = agrees-at-most (cutNext off next) (cutUps off ups) ground cellCount (cut off 𝓝) (p .partial)
           (λ y u. p .is-partial y u ∙ ap suc (sym (total-uncut off ups (cutUps off ups) (p .partial) (ups y)))) x v
         where
           off : ℕ → Bool
@@ -99,7 +100,7 @@ module _ {S : Type 0} {next : ℕ → Option (Link S)} {ups : ℕ → List (Link
     -- at the beginning nothing is passed down
     pub begin : {word : ℕ → ℕ}
         → ((x : ℕ) → ground x ≡ true → word x ≡ flag x + (2 ^ 25 * total ups noOutlet oneEach (ups x) + 1))
-        → ((x : ℕ) → x < places → ground x ≡ false → word x ≡ 0) → Packed ups ground places flag word 0 noOutlet
+        → ((x : ℕ) → x < cellCount → ground x ≡ false → word x ≡ 0) → Packed ups ground cellCount flag word 0 noOutlet
     begin h n = record {
       passed = noOutlet;
       partial = oneEach;
@@ -111,9 +112,9 @@ module _ {S : Type 0} {next : ℕ → Option (Link S)} {ups : ℕ → List (Link
       ahead = λ x v l e. refl;
     }
 
-    module _ {word : ℕ → ℕ} {i : ℕ} (p : Packed ups ground places flag word i noOutlet) where
+    module _ {word : ℕ → ℕ} {i : ℕ} (p : Packed ups ground cellCount flag word i noOutlet) where
       -- a cell is looked at, and is no headwater
-      pub look-on : (ground i ≡ true → word i ≡ flag i + 1 → ⊥) → Packed ups ground places flag word (suc i) noOutlet
+      pub look-on : (ground i ≡ true → word i ≡ flag i + 1 → ⊥) → Packed ups ground cellCount flag word (suc i) noOutlet
       look-on f = record {
         passed = p .passed;
         partial = p .partial;
@@ -135,7 +136,7 @@ module _ {S : Type 0} {next : ℕ → Option (Link S)} {ups : ℕ → List (Link
               more n = omega arith
 
       -- a cell is looked at, and is a headwater
-      pub look-head : ground i ≡ true → word i ≡ flag i + 1 → Walking ups ground places flag word (suc i) i
+      pub look-head : ground i ≡ true → word i ≡ flag i + 1 → Walking ups ground cellCount flag word (suc i) i
       look-head v e = record {
         held = record {
           passed = p .passed;
@@ -156,7 +157,7 @@ module _ {S : Type 0} {next : ℕ → Option (Link S)} {ups : ℕ → List (Link
           more : (x : ℕ) → (x ≡ i → ⊥) → i ≤ x → suc i ≤ x
           more x n h = omega arith
 
-    module _ {word : ℕ → ℕ} {looked here : ℕ} (w : Walking ups ground places flag word looked here) where
+    module _ {word : ℕ → ℕ} {looked here : ℕ} (w : Walking ups ground cellCount flag word looked here) where
       -- ONE MORE CELL IS PASSED DOWN
       abbrev passed₀ : ℕ → Bool
       passed₀ = w .held .passed
@@ -201,7 +202,7 @@ module _ {S : Type 0} {next : ℕ → Option (Link S)} {ups : ℕ → List (Link
           go false q = also-other passed₀ here x (eqb-false x here q) ∙ w .held .ahead x v h p
 
       -- THE END OF A WAY DOWN: the cell flows nowhere
-      pub pass-end : next here ≡ none → Packed ups ground places flag word looked noOutlet
+      pub pass-end : next here ≡ none → Packed ups ground cellCount flag word looked noOutlet
       pass-end e = record {
         passed = passed₁;
         partial = partial₀;
@@ -312,24 +313,26 @@ module _ {S : Type 0} {next : ℕ → Option (Link S)} {ups : ℕ → List (Link
 
           -- what every next state holds, whoever is on the way
           stepped : (busy : ℕ → Bool) → ((x : ℕ) → waiting ups passed₁ x ≡ 0 → busy x ≡ false → x ≡ h .cell → ⊥)
-              → Packed ups ground places flag word′ looked busy
+              → Packed ups ground cellCount flag word′ looked busy
           stepped busy away = record {
             passed = passed₁;
             partial = partial₁;
             is-partial = partial-step;
             is-word = word-step;
-            null-word = λ x b v. else x (λ q. true≢false (sym lands ∙ sym (ap ground q) ∙ v)) ∙ w .held .null-word x b v;
+            null-word = λ x b v. else x (λ q. true≢false (sym lands ∙ sym (ap ground q) ∙ v))
+                ∙ w .held .null-word x b v;
             passed-waits = waits₁;
             is-passed = λ x v l b f. is-passed₁ x v l (miss x (away x l b))
                 (λ a p. f a (elsewhere x (away x l b) ∙ p));
             ahead = ahead-step;
           }
 
-          held₁ : Packed ups ground places flag word′ looked (λ x. eqb x (h .cell))
+          held₁ : Packed ups ground cellCount flag word′ looked (λ x. eqb x (h .cell))
           held₁ = stepped (λ x. eqb x (h .cell)) (λ x l b. eqb-false x (h .cell) b)
 
           -- on, if nothing is waited for there
-          pub pass-on : word′ (h .cell) < flag (h .cell) + 2 ^ 25 → Walking ups ground places flag word′ looked (h .cell)
+          pub pass-on : word′ (h .cell) < flag (h .cell) + 2 ^ 25
+              → Walking ups ground cellCount flag word′ looked (h .cell)
           unfolding held₁ stepped
           pass-on lt = record {
             held = held₁;
@@ -340,10 +343,10 @@ module _ {S : Type 0} {next : ℕ → Option (Link S)} {ups : ℕ → List (Link
           }
 
           -- and else no further
-          pub pass-stop : places ≤ 2 ^ 24 → flag (h .cell) + 2 ^ 25 ≤ word′ (h .cell)
-              → Packed ups ground places flag word′ looked noOutlet
+          pub pass-stop : cellCount ≤ 2 ^ 24 → flag (h .cell) + 2 ^ 25 ≤ word′ (h .cell)
+              → Packed ups ground cellCount flag word′ looked noOutlet
           unfolding held₁ stepped
           pass-stop small le = stepped noOutlet (λ x l b q. full (ap (waiting ups passed₁) (sym q) ∙ l))
             where
               full : waiting ups passed₁ (h .cell) ≡ 0 → ⊥
-              full l = omega (arith, word-step (h .cell) lands, partial-places held₁ (h .cell) lands)
+              full l = omega (arith, word-step (h .cell) lands, partial-at-most held₁ (h .cell) lands)

@@ -10,43 +10,28 @@ use lib.ListN.{length, getD}
 use lib.Seq.{take-length}
 use lib.Dec.{eqb}
 use borrow.Author.Tests.{eqb-true}
-use Rattle.ground.specs.Lists.{member, allBelow}
+use Rattle.lists.specs.Lists.{member, allBelow}
 use Rattle.ground.specs.Grid.{Grid, gridOf, ground, inflows}
 use Rattle.ground.specs.Walk.{ends}
 use Rattle.ground.specs.Accumulation.{gathered, subaccumulation, subaccumulations}
 use Rattle.ground.specs.Subwatershed.{isOutlet}
-use Rattle.ground.proofs.Lists.{all-below, below-all}
+use Rattle.lists.proofs.Lists.{all-below, below-all}
 use Rattle.ground.proofs.Walks.{ends-none}
 use Rattle.ground.proofs.Cells.{ground-within, ground-sub, null-sub}
 use Rattle.ground.proofs.Ground.{grid-length, grid-at}
 use Rattle.filling.specs.Packed.{waiting}
-use Rattle.filling.specs.Filling.{
-  Fillable,
-  Within,
-  flagIf,
-  flagOf,
-  Kept,
-  Cleared,
-  Flagged,
-  stripIf,
-  Stripped,
-  isSettled,
-  nextCut,
-  upsCut,
-  Counted,
-  Looked,
-  cutFree,
-  filledIf,
-}
+use Rattle.filling.specs.Filling.{Fillable, Within, flagIf, flagOf, Flagged, stripIf, Stripped, isSettled}
+use Rattle.filling.specs.Filling.{nextCut, upsCut, Counted, Looked, cutFree, filledIf}
+use Rattle.lists.specs.Slices.{Kept, Cleared}
 use Rattle.filling.proofs.Cut.{gathered-cut}
-use Rattle.filling.proofs.Passing.{partial-places}
+use Rattle.filling.proofs.Passing.{partial-at-most}
 use Rattle.filling.proofs.AllLooked.{settled-word, settled-ends, ends-settled}
 use Rattle.filling.proofs.Counting.{count-begin, count-all}
 use Rattle.filling.proofs.Flags.{flag-mod, cut-network, cut-null}
 use Rattle.filling.proofs.Descents.{word-bounds}
 use Rattle.filling.proofs.Sweeps.{waits-not, settled-less}
-use Rattle.filling.proofs.Kept.{kept-then}
-use Rattle.filling.proofs.Fronts.{front-is, cleared-front}
+use Rattle.lists.proofs.Kept.{kept-then}
+use Rattle.lists.proofs.Overlaid.{front-is, cleared-front}
 
 member-in : (P : ℕ → Type 0) (xs : List ℕ) → ((j : ℕ) → j < length xs → P (getD xs j 0)) → (x : ℕ)
     → member x xs ≡ true → P x
@@ -62,7 +47,7 @@ module _ {rows cols : ℕ} {codes outlets l : List ℕ} (f : Fillable rows cols 
   land = gridOf rows cols codes
 
   small : rows * cols ≤ 4096 * 4096
-  small = mul-le-mul (f .rows-small) (f .cols-small)
+  small = mul-le-mul (f .grid .sides .rows-small) (f .grid .sides .cols-small)
 
   pub outlets-within : Within (rows * cols) outlets
   outlets-within j h = ground-within land (getD outlets j 0) (f .on-ground j h)
@@ -109,7 +94,8 @@ module _ {rows cols : ℕ} {codes outlets l : List ℕ} (f : Fillable rows cols 
 
       pub settled-free : cutFree (gridOf rows cols codes) outlets ≡ true
       unfolding Looked cutFree
-      settled-free = below-all (ends (nextCut land outlets) (rows * cols)) (rows * cols) (λ x h. go x (ground land x) refl)
+      settled-free = below-all (ends (nextCut land outlets) (rows * cols)) (rows * cols)
+          (λ x h. go x (ground land x) refl)
         where
           go : (x : ℕ) (b : Bool) → ground land x ≡ b → ends (nextCut land outlets) (rows * cols) x ≡ true
           go x true v = settled-ends (cut-network land outlets) p
@@ -146,7 +132,7 @@ module _ {rows cols : ℕ} {codes outlets l : List ℕ} (f : Fillable rows cols 
       pub settled-filled : {old m : List ℕ} → Kept (rows * cols) old l
           → Stripped (rows * cols) outlets (length outlets) l m → m ≡ filledIf (gridOf rows cols codes) outlets true old
       settled-filled {old} {m} k s = front-is (subaccumulations land outlets)
-          (omega (arith, long, k .same-length, f .has-grid))
+          (omega (arith, long, k .same-length, f .has-words))
           (subst (λ (n : ℕ). Kept n old m) (sym long) (kept-then k (s .kept)))
           (λ x h. let i : x < rows * cols = omega (arith, long) in
           values s x i ∙ sym (grid-at (subaccumulation land outlets) (rows * cols) x i))
@@ -159,15 +145,17 @@ module _ {rows cols : ℕ} {codes outlets l : List ℕ} (f : Fillable rows cols 
     unfolding Looked cutFree
     waits-ring d = go (cutFree land outlets) refl
       where
-        dry : cutFree land outlets ≡ true → (x : ℕ) (b : Bool) → ground land x ≡ b → x < rows * cols → isSettled l x ≡ true
+        dry : cutFree land outlets ≡ true → (x : ℕ) (b : Bool) → ground land x ≡ b → x < rows * cols
+            → isSettled l x ≡ true
         dry e x true v h = waits-not l x (omega (
           arith,
           small,
           word-mod x v,
           p .is-word x v,
           ends-settled (cut-network land outlets) p
-              (λ y u. all-below (ends (nextCut land outlets) (rows * cols)) (rows * cols) e y (ground-within land y u)) x v,
-          partial-places (cut-network land outlets) p x v,
+              (λ y u. all-below (ends (nextCut land outlets) (rows * cols)) (rows * cols) e y
+              (ground-within land y u)) x v,
+          partial-at-most (cut-network land outlets) p x v,
         ))
         dry e x false v h = waits-not l x (omega (arith, p .null-word x h v))
 
@@ -178,5 +166,5 @@ module _ {rows cols : ℕ} {codes outlets l : List ℕ} (f : Fillable rows cols 
 
   pub cleared-filled : {old m : List ℕ} → Kept (rows * cols) old l → Cleared (rows * cols) (rows * cols) l m
       → m ≡ filledIf (gridOf rows cols codes) outlets false old
-  cleared-filled k c = cleared-front (rows * cols) (omega (arith, k .same-length, f .has-grid)) (kept-then k (c .kept))
+  cleared-filled k c = cleared-front (rows * cols) (omega (arith, k .same-length, f .has-words)) (kept-then k (c .kept))
       (c .are-zero)

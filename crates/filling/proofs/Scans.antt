@@ -6,8 +6,8 @@ use mathlib.Core.List.{List}
 use Prim.Native.Nat.{ℕ, _+_, _*_, _≤_, _<_}
 use native.Mathlib.Omega.{arith}
 use Rattle.ground.proofs.Cells.{in-rows}
-use Rattle.filling.specs.Filling.{Kept}
-use Rattle.filling.proofs.Kept.{kept-all, kept-then}
+use Rattle.lists.specs.Slices.{Kept}
+use Rattle.lists.proofs.Kept.{kept-all, kept-then}
 
 pub record Scan (P : List ℕ → ℕ → Type 0) (rows cols : ℕ) (old new : List ℕ) (row col at : ℕ) : Type 0 where
   pub is-at : at ≡ row * cols + col

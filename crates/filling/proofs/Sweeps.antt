@@ -10,29 +10,12 @@ use lib.ListN.{length, getD, set, take}
 use lib.Seq.{getD-set-same, getD-set-other, take-suc}
 use lib.Dec.{eqb}
 use borrow.Author.Tests.{eqb-true, eqb-false, ltb-true, lt-ltb, le-ltb}
-use Rattle.ground.specs.Lists.{member, allBelow}
-use Rattle.ground.proofs.Lists.{all-below}
-use Rattle.filling.specs.Filling.{flagIf, flagOf, Cleared, Flagged, stripIf, Stripped, isSettled}
-use Rattle.filling.proofs.Kept.{kept-all, kept-then, kept-set}
+use Rattle.lists.specs.Lists.{member, allBelow}
+use Rattle.lists.proofs.Lists.{all-below}
+use Rattle.filling.specs.Filling.{flagIf, flagOf, Flagged, stripIf, Stripped, isSettled}
+use Rattle.lists.proofs.Kept.{kept-all, kept-then, kept-set}
 
 -- ---- clearing
-
-pub clear-begin : {n : ℕ} {l : List ℕ} → Cleared n 0 l l
-clear-begin = record { kept = kept-all; are-zero = λ x h. absurd (omega arith) }
-
-pub clear-step : {n i : ℕ} {l m : List ℕ} → i < n → n ≤ length l → Cleared n i l m → Cleared n (i + 1) l (set m i 0)
-clear-step {n} {i} {l} {m} h r c = record {
-  kept = kept-then (c .kept) (kept-set i 0 h);
-  are-zero = λ x k. go x k (eqb x i) refl;
-}
-  where
-    less : (x : ℕ) → x < i + 1 → (x ≡ i → ⊥) → x < i
-    less x k f = omega arith
-
-    go : (x : ℕ) → x < i + 1 → (b : Bool) → eqb x i ≡ b → getD (set m i 0) x 0 ≡ 0
-    go x k true e = subst (λ (y : ℕ). getD (set m i 0) y 0 ≡ 0) (sym (eqb-true x i e))
-        (getD-set-same m i 0 0 (omega (arith, c .kept .same-length)))
-    go x k false e = let f = eqb-false x i e in getD-set-other m i x 0 0 f ∙ c .are-zero x (less x k f)
 
 -- ---- the first j outlets and one more
 

@@ -1,11 +1,10 @@
--- A network cut at some cells: a cut cell flows nowhere, and is nobody's inflow. Cut at the outlets, what it accumulates
--- is the subaccumulation.
--- Assumes nothing.
+-- A network cut at some cells: a cut cell flows nowhere, and is nobody's inflow. Cut at the outlets, what it
+-- accumulates is the subaccumulation. Assumes nothing.
 use mathlib.Core.Bool.{Bool, cond, not}
 use mathlib.Core.List.{List}
 use mathlib.Core.Option.{Option, none}
 use Prim.Native.Nat.{ℕ}
-use Rattle.ground.specs.Lists.{only}
+use Rattle.lists.specs.Lists.{only}
 use Rattle.ground.specs.Grid.{Link}
 
 module _ {S : Type 0} (isCut : ℕ → Bool) where

@@ -3,49 +3,35 @@
 use mathlib.Core.Path.{_≡_}
 use mathlib.Core.Bool.{Bool, true, false, cond}
 use mathlib.Core.List.{List}
-use mathlib.Core.Option.{Option, none, some}
+use mathlib.Core.Option.{Option}
 use Prim.Native.Nat.{ℕ, _+_, _*_, _%_, _≤_, _<_, _^_}
 use lib.ListN.{length, getD, take}
 use lib.Dec.{ltb}
-use Rattle.ground.specs.declared.Spot.{Spot}
-use Rattle.ground.specs.declared.Spot.the-variants.{Off, On}
-use Rattle.ground.specs.Lists.{member, allBelow, sumOf}
+use Rattle.moves.specs.declared.Spot.{Spot}
+use Rattle.moves.specs.declared.Spot.the-variants.{Off, On}
+use Rattle.lists.specs.Lists.{member, allBelow, sumOf}
 use Rattle.ground.specs.Compass.{Dir}
-use Rattle.ground.specs.Grid.{Grid, Link, gridOf, places, ground, next, inflows}
+use Rattle.ground.specs.Grid.{Grid, Link, gridOf, cellCount, ground, next, inflows}
 use Rattle.ground.specs.Walk.{ends}
 use Rattle.ground.specs.Accumulation.{subaccumulations}
 use Rattle.ground.specs.Subwatershed.{isOutlet}
-use Rattle.answers.specs.Entries.{overlaid, zeros}
+use Rattle.lists.specs.Slices.{overlaid, zeros, Kept}
+use Rattle.moves.specs.Lent.{LentGrid}
 use Rattle.filling.specs.Cut.{cutNext, cutUps}
 use Rattle.filling.specs.Packed.{Counting, Packed, Walking}
 
--- a grid of codes of an allowed size, outlets on its ground, and a lent grid that is large enough
-pub record Fillable (rows cols : ℕ) (codes outlets grid : List ℕ) : Type 0 where
-  pub rows-small : rows ≤ 4096
-  pub cols-small : cols ≤ 4096
+-- a grid with a column, outlets on its ground, and a lent grid that is large enough
+pub record Fillable (rows cols : ℕ) (codes outlets words : List ℕ) : Type 0 where
+  pub grid : LentGrid rows cols codes
   pub some-cols : 0 < cols
-  pub has-codes : rows * cols ≤ length codes
-  pub has-grid : rows * cols ≤ length grid
+  pub has-words : rows * cols ≤ length words
   pub on-ground : (j : ℕ) → j < length outlets → ground (gridOf rows cols codes) (getD outlets j 0) ≡ true
 
--- a cell of a grid of codes
-pub record HasPlace (rows cols : ℕ) (codes : List ℕ) (row col : ℕ) : Type 0 where
-  pub rows-small : rows ≤ 4096
-  pub cols-small : cols ≤ 4096
-  pub has-codes : rows * cols ≤ length codes
+-- a cell of it
+pub record FillableAt (rows cols : ℕ) (codes outlets words : List ℕ) (row col : ℕ) : Type 0 where
+  pub fillable : Fillable rows cols codes outlets words
   pub row-in : row < rows
   pub col-in : col < cols
-
--- a cell flows to another, in some direction
-abbrev pub Flows : Grid → ℕ → ℕ → Type 0
-Flows g x y = (d : Dir) × (next g x ≡ some (record { cell = y; step = d }))
-
--- the place that a cell flows to, or none where its walk ends
-pub record FlowsTo (g : Grid) (x : ℕ) (r : Spot) : Type 0 where
-  pub ends-here : r ≡ Off → next g x ≡ none
-  pub goes-on : (row col : ℕ) → r ≡ On row col → Flows g x (row * g .cols + col)
-  pub row-in : (row col : ℕ) → r ≡ On row col → row < g .rows
-  pub col-in : (row col : ℕ) → r ≡ On row col → col < g .cols
 
 -- the flag in an outlet's word
 abbrev pub flagIf : Bool → ℕ
@@ -54,19 +40,9 @@ flagIf b = cond b (2 ^ 30) 0
 abbrev pub flagOf : List ℕ → ℕ → ℕ
 flagOf outlets x = flagIf (member x outlets)
 
--- only the first n places of a list changed
-pub record Kept (n : ℕ) (old new : List ℕ) : Type 0 where
-  pub same-length : length new ≡ length old
-  pub rest : (x : ℕ) → n ≤ x → getD new x 0 ≡ getD old x 0
-
 -- every outlet is one of the first n places
 abbrev pub Within : ℕ → List ℕ → Type 0
 Within n outlets = (j : ℕ) → j < length outlets → getD outlets j 0 < n
-
--- the first i places are 0
-pub record Cleared (n i : ℕ) (old new : List ℕ) : Type 0 where
-  pub kept : Kept n old new
-  pub are-zero : (x : ℕ) → x < i → getD new x 0 ≡ 0
 
 -- the first n places hold the flags of the first j outlets
 pub record Flagged (n : ℕ) (outlets : List ℕ) (j : ℕ) (old new : List ℕ) : Type 0 where
@@ -96,15 +72,15 @@ module _ (g : Grid) (outlets : List ℕ) where
 
   -- the cells before n are counted
   unfoldable pub Counted : List ℕ → ℕ → Type 0
-  Counted words n = Counting upsCut (ground g) (places g) (flagOf outlets) (λ x. getD words x 0) n n
+  Counted words n = Counting upsCut (ground g) (cellCount g) (flagOf outlets) (λ x. getD words x 0) n n
 
   -- the cells before n are looked at, and nothing is on the way down
   unfoldable pub Looked : List ℕ → ℕ → Type 0
-  Looked words n = Packed upsCut (ground g) (places g) (flagOf outlets) (λ x. getD words x 0) n (λ x. false)
+  Looked words n = Packed upsCut (ground g) (cellCount g) (flagOf outlets) (λ x. getD words x 0) n (λ x. false)
 
   -- they are, and the way down is at a cell
   unfoldable pub Down : List ℕ → ℕ → ℕ → Type 0
-  Down words n here = Walking upsCut (ground g) (places g) (flagOf outlets) (λ x. getD words x 0) n here
+  Down words n here = Walking upsCut (ground g) (cellCount g) (flagOf outlets) (λ x. getD words x 0) n here
 
   -- a way down: it is at a cell, or at its end
   pub record Going (looked : ℕ) (old new : List ℕ) (r : Spot) : Type 0 where
@@ -112,7 +88,7 @@ module _ (g : Grid) (outlets : List ℕ) where
     pub row-in : (row col : ℕ) → r ≡ On row col → row < g .rows
     pub col-in : (row col : ℕ) → r ≡ On row col → col < g .cols
     pub is-done : r ≡ Off → Looked new looked
-    pub kept : Kept (places g) old new
+    pub kept : Kept (cellCount g) old new
 
   -- what one step down leaves: where the way goes on, the words add up to less
   pub record Passed (looked : ℕ) (old new : List ℕ) (r : Spot) : Type 0 where
@@ -121,9 +97,14 @@ module _ (g : Grid) (outlets : List ℕ) where
 
   -- does every walk come to its end or to an outlet?
   unfoldable pub cutFree : Bool
-  cutFree = allBelow (ends nextCut (places g)) (places g)
+  cutFree = allBelow (ends nextCut (cellCount g)) (cellCount g)
 
   -- what the lent grid holds in the end: the subaccumulation, or a 0 for each cell
   abbrev pub filledIf : Bool → List ℕ → List ℕ
   filledIf true old = overlaid (subaccumulations g outlets) old
-  filledIf false old = overlaid (zeros (places g)) old
+  filledIf false old = overlaid (zeros (cellCount g)) old
+
+  -- whether it succeeds, and what it leaves
+  pub record Fills (old : List ℕ) (free : Bool) (new : List ℕ) : Type 0 where
+    pub answers : free ≡ cutFree
+    pub leaves : new ≡ filledIf free old

@@ -2,9 +2,8 @@
 --
 --     flag + 2 ^ 25 × waiting + partial
 --
--- where `flag` marks an outlet, `waiting` is how many inflows are not yet passed down, and `partial` is 1 and the sum of
--- those that are. The word of a null cell is 0.
--- Assumes nothing.
+-- where `flag` marks an outlet, `waiting` is how many inflows are not yet passed down, and `partial` is 1 and the sum
+-- of those that are. The word of a null cell is 0. Assumes nothing.
 use mathlib.Core.Path.{_≡_}
 use mathlib.Core.Bool.{Bool, true, false, cond, not}
 use mathlib.Core.List.{List}
@@ -29,12 +28,12 @@ module _ {S : Type 0} (ups : ℕ → List (Link S)) where
   abbrev pub arrived : (ℕ → Bool) → (ℕ → ℕ) → ℕ → ℕ
   arrived passed partial x = total ups (λ c. not (passed c)) partial (ups x)
 
-  module _ (ground : ℕ → Bool) (places : ℕ) (flag : ℕ → ℕ) where
+  module _ (ground : ℕ → Bool) (cellCount : ℕ) (flag : ℕ → ℕ) where
     -- COUNTING: the cells before m are counted by the cells they flow to, and the cells before n by themselves
     pub record Counting (word : ℕ → ℕ) (m n : ℕ) : Type 0 where
       pub is-word : (x : ℕ) → ground x ≡ true
           → word x ≡ flag x + (2 ^ 25 * arrived (λ c. ltb c m) oneEach x + ownCount n x)
-      pub null-word : (x : ℕ) → x < places → ground x ≡ false → word x ≡ 0
+      pub null-word : (x : ℕ) → x < cellCount → ground x ≡ false → word x ≡ 0
 
     -- PASSING DOWN: the cells before `looked` are looked at, and those of `busy` are on the way down. What waits for
     -- nothing is passed down, but for those on the way and the headwaters ahead, and of these none is
@@ -43,7 +42,7 @@ module _ {S : Type 0} (ups : ℕ → List (Link S)) where
       pub partial : ℕ → ℕ
       pub is-partial : (x : ℕ) → ground x ≡ true → partial x ≡ suc (arrived passed partial x)
       pub is-word : (x : ℕ) → ground x ≡ true → word x ≡ flag x + (2 ^ 25 * waiting passed x + partial x)
-      pub null-word : (x : ℕ) → x < places → ground x ≡ false → word x ≡ 0
+      pub null-word : (x : ℕ) → x < cellCount → ground x ≡ false → word x ≡ 0
       pub passed-waits : (x : ℕ) → passed x ≡ true → waiting passed x ≡ 0
       pub is-passed : (x : ℕ) → ground x ≡ true → waiting passed x ≡ 0 → busy x ≡ false
           → (looked ≤ x → partial x ≡ 1 → ⊥) → passed x ≡ true

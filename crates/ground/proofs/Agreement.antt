@@ -1,19 +1,18 @@
--- Where an accumulation agrees with its equation at every cell, it is the accumulation, no more steps up are needed than
--- there are places, and a forest lists no cell twice.
--- Assumes nothing.
+-- Where an accumulation agrees with its equation at every cell, it is the accumulation, no more steps up are needed
+-- than there are places, and a forest lists no cell twice. Assumes nothing.
 use mathlib.Core.Path.{_≡_, refl, sym, ap, ap₂, _∙_, subst}
-use mathlib.Core.Bool.{Bool, true, false, true≢false}
-use mathlib.Core.List.{List, [], _∷_, _++_}
+use mathlib.Core.Bool.{Bool, true, false}
+use mathlib.Core.List.{List, [], _∷_}
 use mathlib.Core.Option.{Option, none, some}
 use Prim.Native.Nat.{ℕ, zero, suc, _+_, _≤_, _<_}
 use native.Mathlib.Omega.{arith}
 use lib.Dec.{eqb}
 use borrow.Author.Tests.{eqb-true, eqb-false}
-use Rattle.ground.specs.Lists.{Every}
+use Rattle.lists.specs.Lists.{Every}
 use Rattle.ground.specs.Grid.{Link}
 use Rattle.ground.specs.Accumulation.{total, gathered}
 use Rattle.ground.specs.Forest.{Forest, bare, tree, size, grow, upstream}
-use Rattle.ground.proofs.Lists.{every-map, every-in}
+use Rattle.lists.proofs.Lists.{every-map, every-in}
 use Rattle.ground.proofs.Sums.{one, one-le, one-same, one-other, sumTo, sum-add, sum-zero, sum-le, sum-one}
 use Rattle.ground.proofs.Network.{Network, times, count, gathered-size}
 
@@ -47,8 +46,8 @@ AllTrees P (tree c s above rest) = P c above × AllTrees P above × AllTrees P r
 unfoldable pub Agrees : {S : Type 0} → (ℕ → List (Link S)) → (ℕ → Bool) → (ℕ → ℕ) → Type 0
 Agrees ups ground A = (x : ℕ) → ground x ≡ true → A x ≡ suc (total ups noOutlet A (ups x))
 
-module _ {S : Type 0} (next : ℕ → Option (Link S)) (ups : ℕ → List (Link S)) (ground : ℕ → Bool) (places : ℕ)
-    (𝓝 : Network next ups ground places) where
+module _ {S : Type 0} (next : ℕ → Option (Link S)) (ups : ℕ → List (Link S)) (ground : ℕ → Bool) (cellCount : ℕ)
+    (𝓝 : Network next ups ground cellCount) where
   module _ (A : ℕ → ℕ) (agrees : Agrees ups ground A) where
     -- what is known of a kid
     record Inflowing (x : ℕ) (k : Link S) : Type 0 where
@@ -238,18 +237,18 @@ module _ {S : Type 0} (next : ℕ → Option (Link S)) (ups : ℕ → List (Link
           go false e (some h) f ih = omega (arith, one-other z c (eqb-false z c e), count-next n z c h f, ih (h .cell))
 
       -- all of them are places
-      pub upstream-within : (n z : ℕ) → ground z ≡ true → AllCells (λ c. c < places) (upstream ups outlet n z)
-      upstream-within n z v = all-map (Upper z) (λ c. c < places) (λ c u. 𝓝 .bounded c (u .solid))
+      pub upstream-within : (n z : ℕ) → ground z ≡ true → AllCells (λ c. c < cellCount) (upstream ups outlet n z)
+      upstream-within n z v = all-map (Upper z) (λ c. c < cellCount) (λ c u. 𝓝 .bounded c (u .solid))
           (upstream ups outlet n z) (upstream-upper n z v)
 
       -- no more cells than places
-      pub upstream-places : (n z : ℕ) → ground z ≡ true → suc (size (upstream ups outlet n z)) ≤ places
-      upstream-places n z v = omega (
+      pub upstream-at-most : (n z : ℕ) → ground z ≡ true → suc (size (upstream ups outlet n z)) ≤ cellCount
+      upstream-at-most n z v = omega (
         arith,
-        sum-le places (λ c. one z c + count c (upstream ups outlet n z)) (λ c. count-once n z c v),
-        sum-add places (one z) (λ c. count c (upstream ups outlet n z)),
-        sum-one places z (𝓝 .bounded z v),
-        sum-count places (upstream ups outlet n z) (upstream-within n z v),
+        sum-le cellCount (λ c. one z c + count c (upstream ups outlet n z)) (λ c. count-once n z c v),
+        sum-add cellCount (one z) (λ c. count c (upstream ups outlet n z)),
+        sum-one cellCount z (𝓝 .bounded z v),
+        sum-count cellCount (upstream ups outlet n z) (upstream-within n z v),
       )
 
     -- the accumulation that agrees is what is gathered, with steps enough
@@ -267,17 +266,17 @@ module _ {S : Type 0} (next : ℕ → Option (Link S)) (ups : ℕ → List (Link
         go (k ∷ ks) s = ap₂ _+_ (s .0) (go ks (s .1))
 
     -- it is no more than the places
-    pub agrees-places : (x : ℕ) → ground x ≡ true → A x ≤ places
-    agrees-places x v = omega (
+    pub agrees-at-most : (x : ℕ) → ground x ≡ true → A x ≤ cellCount
+    agrees-at-most x v = omega (
       arith,
       gathered-agrees (A x) x v (omega arith),
       gathered-size ups noOutlet (A x) x,
-      upstream-places noOutlet (A x) x v,
+      upstream-at-most noOutlet (A x) x v,
     )
 
     -- so the accumulation that agrees is the accumulation, and the forest needs no more steps than places
-    pub agrees-is : (x : ℕ) → ground x ≡ true → A x ≡ gathered ups noOutlet places x
-    agrees-is x v = sym (gathered-agrees places x v (agrees-places x v))
+    pub agrees-is : (x : ℕ) → ground x ≡ true → A x ≡ gathered ups noOutlet cellCount x
+    agrees-is x v = sym (gathered-agrees cellCount x v (agrees-at-most x v))
 
     -- the equation of the subaccumulation
     gathered-stable : (outlet : ℕ → Bool) (n m x : ℕ) → ground x ≡ true → A x ≤ n → A x ≤ m
@@ -286,14 +285,14 @@ module _ {S : Type 0} (next : ℕ → Option (Link S)) (ups : ℕ → List (Link
         ∙ ap (λ f. suc (size f)) (upstream-stable outlet n m x v h i) ∙ sym (gathered-size ups outlet m x)
 
     pub gathered-equation : (outlet : ℕ → Bool) (x : ℕ) → ground x ≡ true
-        → gathered ups outlet places x ≡ suc (total ups outlet (gathered ups outlet places) (ups x))
-    gathered-equation outlet x v = gathered-stable outlet places (suc places) x v (agrees-places x v)
-        (omega (arith, agrees-places x v))
+        → gathered ups outlet cellCount x ≡ suc (total ups outlet (gathered ups outlet cellCount) (ups x))
+    gathered-equation outlet x v = gathered-stable outlet cellCount (suc cellCount) x v (agrees-at-most x v)
+        (omega (arith, agrees-at-most x v))
 
     pub upstream-equation : (outlet : ℕ → Bool) (x : ℕ) → ground x ≡ true
-        → upstream ups outlet places x ≡ grow ups outlet (upstream ups outlet places) (ups x)
-    upstream-equation outlet x v = upstream-stable outlet places (suc places) x v (agrees-places x v)
-        (omega (arith, agrees-places x v))
+        → upstream ups outlet cellCount x ≡ grow ups outlet (upstream ups outlet cellCount) (ups x)
+    upstream-equation outlet x v = upstream-stable outlet cellCount (suc cellCount) x v (agrees-at-most x v)
+        (omega (arith, agrees-at-most x v))
 
     -- what lies above a cell of a forest is what lies above that cell
     module _ (outlet : ℕ → Bool) where
@@ -308,23 +307,26 @@ module _ {S : Type 0} (next : ℕ → Option (Link S)) (ups : ℕ → List (Link
           go false e ih = rw (e, grow) (h .0 .0, h .0 .1, ih)
 
       upstream-trees : (n x : ℕ) → ground x ≡ true → A x ≤ n
-          → AllTrees (λ c up. (ground c ≡ true) × (up ≡ upstream ups outlet places c)) (upstream ups outlet n x)
+          → AllTrees (λ c up. (ground c ≡ true) × (up ≡ upstream ups outlet cellCount c)) (upstream ups outlet n x)
       upstream-trees zero x v h = tt
-      upstream-trees (suc n) x v h = grow-trees (λ c up. (ground c ≡ true) × (up ≡ upstream ups outlet places c))
+      upstream-trees (suc n) x v h = grow-trees (λ c up. (ground c ≡ true) × (up ≡ upstream ups outlet cellCount c))
           (upstream ups outlet n) (ups x)
           (every-map (Inflowing x)
-          (λ k. ((ground (k .cell) ≡ true) × (upstream ups outlet n (k .cell) ≡ upstream ups outlet places (k .cell)))
-          × AllTrees (λ c up. (ground c ≡ true) × (up ≡ upstream ups outlet places c)) (upstream ups outlet n (k .cell)))
+          (λ k. ((ground (k .cell) ≡ true) × (upstream ups outlet n (k .cell)
+          ≡ upstream ups outlet cellCount (k .cell)))
+          × AllTrees (λ c up. (ground c ≡ true) × (up ≡ upstream ups outlet cellCount c))
+          (upstream ups outlet n (k .cell)))
           (λ k f. (
             (
               f .solid,
-              upstream-stable outlet n places (k .cell) (f .solid) (omega (arith, f .fewer))
-                  (agrees-places (k .cell) (f .solid)),
+              upstream-stable outlet n cellCount (k .cell) (f .solid) (omega (arith, f .fewer))
+                  (agrees-at-most (k .cell) (f .solid)),
             ),
             upstream-trees n (k .cell) (f .solid) (omega (arith, f .fewer)),
           ))
           (ups x) (inflow-facts x v))
 
       pub forest-trees : (x : ℕ) → ground x ≡ true
-          → AllTrees (λ c up. (ground c ≡ true) × (up ≡ upstream ups outlet places c)) (upstream ups outlet places x)
-      forest-trees x v = upstream-trees places x v (agrees-places x v)
+          → AllTrees (λ c up. (ground c ≡ true) × (up ≡ upstream ups outlet cellCount c))
+          (upstream ups outlet cellCount x)
+      forest-trees x v = upstream-trees cellCount x v (agrees-at-most x v)

@@ -1,7 +1,7 @@
 -- The grid's definitions by cases, and directions there and back.
 -- Assumes nothing.
 use mathlib.Core.Path.{_≡_, refl, sym, ap, _∙_, subst}
-use mathlib.Core.Bool.{Bool, true, false, cond, not, true≢false}
+use mathlib.Core.Bool.{Bool, true, false, not, true≢false}
 use mathlib.Core.List.{List, [], _∷_, map}
 use mathlib.Core.Option.{Option, none, some}
 use Prim.Native.Nat.{ℕ, zero, suc, _+_, _*_, _/_, _%_, _≤_, _<_}
@@ -9,10 +9,10 @@ use native.Mathlib.Nat.{div-add-mod', mod-lt, div-lt-iff-lt-mul, mul-le-mul, le-
 use native.Mathlib.Omega.{arith}
 use native.Mathlib.Decide.{decLt}
 use lib.ListN.{getD}
-use lib.Arith.{digits-div, digits-mod, digits-lt}
+use lib.Arith.{digits-div, digits-mod}
 use lib.Dec.{eqb, ltb}
 use borrow.Author.Tests.{eqb-true, eq-eqb, ltb-true, lt-ltb, le-ltb}
-use Rattle.ground.specs.Lists.{sumOf}
+use Rattle.lists.specs.Lists.{sumOf}
 use Rattle.ground.specs.Compass.{
   Dir,
   E,
@@ -38,24 +38,10 @@ use Rattle.ground.specs.Compass.{
   rowShift,
   colShift,
 }
-use Rattle.ground.specs.Grid.{
-  Grid,
-  Link,
-  cellAt,
-  places,
-  codeAt,
-  ground,
-  neighbour,
-  flow,
-  onto,
-  along,
-  next,
-  inflowRecord,
-  inflowsFrom,
-  inflows,
-}
+use Rattle.ground.specs.Grid.{Grid, cellAt, cellCount, codeAt, ground, neighbour, flow, onto, next, inflowRecord}
+use Rattle.ground.specs.Grid.{inflowsFrom, inflows}
 use Rattle.ground.specs.Accumulation.{gathered, balance, subaccumulation}
-use Rattle.ground.specs.Lists.{member}
+use Rattle.lists.specs.Lists.{member}
 
 -- THE ORDER: `dirs` is the order of `placeOf`, and both are E, SE, S, SW, W, NW, N, NE
 pub dirs-in-order : map placeOf dirs ≡ 0 ∷ 1 ∷ 2 ∷ 3 ∷ 4 ∷ 5 ∷ 6 ∷ 7 ∷ []
@@ -170,19 +156,19 @@ cell-is cols (some r) none y e = let w : _≡_ {A = ℕ} 0 1 = cc in absurd (ome
 cell-is cols (some r) (some c) y e = record { row = r; col = c; is-row = refl; is-col = refl; is-cell = cc }
 
 module _ (g : Grid) where
-  pub code-inside : (x : ℕ) → x < places g → codeAt g x ≡ getD (g .codes) x 0
+  pub code-inside : (x : ℕ) → x < cellCount g → codeAt g x ≡ getD (g .codes) x 0
   unfolding codeAt
-  code-inside x h = rw (lt-ltb x (places g) h)
+  code-inside x h = rw (lt-ltb x (cellCount g) h)
 
-  pub code-outside : (x : ℕ) → places g ≤ x → codeAt g x ≡ 0
+  pub code-outside : (x : ℕ) → cellCount g ≤ x → codeAt g x ≡ 0
   unfolding codeAt
-  code-outside x h = rw (le-ltb x (places g) h)
+  code-outside x h = rw (le-ltb x (cellCount g) h)
 
   -- ground is within the grid
-  pub ground-within : (x : ℕ) → ground g x ≡ true → x < places g
-  ground-within x v = elim (decLt x (places g)) [ yes h ↦ h | no h ↦ absurd (go (omega arith)) ]
+  pub ground-within : (x : ℕ) → ground g x ≡ true → x < cellCount g
+  ground-within x v = elim (decLt x (cellCount g)) [ yes h ↦ h | no h ↦ absurd (go (omega arith)) ]
     where
-      go : places g ≤ x → ⊥
+      go : cellCount g ≤ x → ⊥
       go h = true≢false (sym v ∙ ap (λ (c : ℕ). not (eqb c 0)) (code-outside x h))
 
   -- the neighbour at a known row and column
@@ -192,7 +178,7 @@ module _ (g : Grid) where
   neighbour-at row col d h = rw (digits-div row h, digits-mod row h)
 
   -- THERE AND BACK
-  pub neighbour-back : (x : ℕ) (d : Dir) (y : ℕ) → x < places g → neighbour g x d ≡ some y
+  pub neighbour-back : (x : ℕ) (d : Dir) (y : ℕ) → x < cellCount g → neighbour g x d ≡ some y
       → neighbour g y (opposite d) ≡ some x
   unfolding neighbour
   neighbour-back x d y h e = subst (λ (z : ℕ). neighbour g z (opposite d) ≡ some x) (j .is-cell)
@@ -211,7 +197,8 @@ module _ (g : Grid) where
           flat : g .cols ≡ 0 → ⊥
           flat k = omega (arith, rw k at h)
 
-      j : CellIs (g .cols) (shifted (rowShift d) (g .rows) (x / g .cols)) (shifted (colShift d) (g .cols) (x % g .cols)) y
+      j : CellIs (g .cols) (shifted (rowShift d) (g .rows) (x / g .cols))
+          (shifted (colShift d) (g .cols) (x % g .cols)) y
       j = cell-is (g .cols) (shifted (rowShift d) (g .rows) (x / g .cols))
           (shifted (colShift d) (g .cols) (x % g .cols)) y e
 
@@ -259,7 +246,7 @@ module _ (g : Grid) where
   null-inflows x v = rw v
 
   pub ground-sub : (outlets : List ℕ) (x : ℕ) → ground g x ≡ true
-      → subaccumulation g outlets x ≡ gathered (inflows g) (λ c. member c outlets) (places g) x
+      → subaccumulation g outlets x ≡ gathered (inflows g) (λ c. member c outlets) (cellCount g) x
   unfolding subaccumulation
   ground-sub outlets x v = rw v
 

@@ -2,51 +2,24 @@
 -- Assumes nothing.
 use mathlib.Core.Path.{_≡_, refl, sym, ap, ap₂, _∙_, subst}
 use mathlib.Core.Bool.{Bool, true, false, cond, true≢false}
-use mathlib.Core.Logic.{_⊎_, inl, inr}
+use mathlib.Core.Logic.{inl, inr}
 use mathlib.Core.List.{List, [], _∷_, map}
 use mathlib.Core.Option.{Option, none, some}
-use Prim.Native.Nat.{ℕ, zero, suc, _+_, _≤_, _<_}
+use Prim.Native.Nat.{ℕ, suc, _+_, _≤_}
 use native.Mathlib.Omega.{arith}
 use lib.ListN.{getD}
 use lib.Dec.{eqb}
-use borrow.Author.Tests.{eqb-true, eq-eqb}
-use Rattle.ground.specs.Lists.{In, Every, sumOf}
+use borrow.Author.Tests.{eqb-true}
+use Rattle.lists.specs.Lists.{In, Every, sumOf}
 use Rattle.ground.specs.Compass.{Dir, E, SE, S, SW, W, NW, N, NE, dirs, placeOf, codeOf, opposite}
-use Rattle.ground.specs.Grid.{
-  Grid,
-  Link,
-  places,
-  codeAt,
-  ground,
-  neighbour,
-  flow,
-  onto,
-  next,
-  flowsIn,
-  inflow,
-  inflowsFrom,
-  inflows,
-  inflowValue,
-  inflowRecord,
-}
+use Rattle.ground.specs.Grid.{Grid, Link, cellCount, codeAt, ground, neighbour, flow, next, flowsIn, inflow}
+use Rattle.ground.specs.Grid.{inflowsFrom, inflows, inflowValue, inflowRecord}
 use Rattle.ground.specs.Accumulation.{total}
 use Rattle.ground.proofs.Sums.{one}
 use Rattle.ground.proofs.Network.{times, Network}
 use Rattle.ground.proofs.Agreement.{noOutlet}
-use Rattle.ground.proofs.Cells.{
-  opposite-twice,
-  code-dir,
-  ground-within,
-  neighbour-back,
-  flow-ground,
-  points-flow,
-  flow-points,
-  next-along,
-  next-none,
-  next-is,
-  ground-inflows,
-  null-inflows,
-}
+use Rattle.ground.proofs.Cells.{opposite-twice, ground-within, neighbour-back, flow-ground, points-flow}
+use Rattle.ground.proofs.Cells.{flow-points, next-along, next-none, next-is, ground-inflows, null-inflows}
 
 module _ (g : Grid) where
   -- the walk's step, by what it is made of
@@ -92,7 +65,8 @@ module _ (g : Grid) where
   inflow-next x d y v n f = next-is g y (opposite d) x (points-flow g (opposite d) y f)
       (neighbour-back g x d y (ground-within g x v) n) v
 
-  -- an induction on the neighbours of a cell, one direction after the other: each is off the grid, flows in, or does not
+  -- an induction on the neighbours of a cell, one direction after the other: each is off the grid, flows in, or does
+  -- not
   pub inflows-induct : (x : ℕ) (P : List Dir → List (Link Dir) → Type 0) → P [] []
       → ((d : Dir) (ds : List Dir) (ks : List (Link Dir)) → neighbour g x d ≡ none → P ds ks → P (d ∷ ds) ks)
       → ((d : Dir) (ds : List Dir) (ks : List (Link Dir)) (y : ℕ) → neighbour g x d ≡ some y
@@ -101,7 +75,8 @@ module _ (g : Grid) where
       → flowsIn g d (some y) ≡ false → P ds ks → P (d ∷ ds) ks)
       → (ds : List Dir) → P ds (inflowsFrom g ds x)
   inflows-induct x P done off in′ away [] = done
-  inflows-induct x P done off in′ away (d ∷ ds) = by-place (neighbour g x d) refl (inflows-induct x P done off in′ away ds)
+  inflows-induct x P done off in′ away (d ∷ ds) = by-place (neighbour g x d) refl
+      (inflows-induct x P done off in′ away ds)
     where
       by-flow : (y : ℕ) → neighbour g x d ≡ some y → (b : Bool) → flowsIn g d (some y) ≡ b → P ds (inflowsFrom g ds x)
           → P (d ∷ ds) (inflow g d (some y) (inflowsFrom g ds x))
@@ -213,7 +188,7 @@ module _ (g : Grid) where
       )
 
   -- A GRID IS A NETWORK
-  pub network : Network (next g) (inflows g) (ground g) (places g)
+  pub network : Network (next g) (inflows g) (ground g) (cellCount g)
   network = record {
     sound = λ x. sound x (ground g x) refl;
     complete = λ y h e. complete y h (stepped y h e);

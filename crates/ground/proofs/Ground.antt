@@ -1,10 +1,10 @@
 -- THE LAWS OF THE GROUND, over a grid: rings, the accumulation's equation, subaccumulation and subwatershed.
 -- Assumes nothing.
-use mathlib.Core.Path.{_≡_, refl, sym, ap, ap₂, _∙_, subst}
-use mathlib.Core.Bool.{Bool, true, false, cond, true≢false}
+use mathlib.Core.Path.{_≡_, refl, sym, ap, _∙_}
+use mathlib.Core.Bool.{Bool, true, false}
 use mathlib.Core.Logic.{_↔_}
 use mathlib.Core.List.{List, [], _∷_, _++_, map, map-append}
-use mathlib.Core.Option.{Option, none, some}
+use mathlib.Core.Option.{some}
 use Prim.Native.Nat.{ℕ, zero, suc, _+_, _≤_, _<_}
 use native.Mathlib.Omega.{arith}
 use lib.ListN.{length, getD, length-map, length-append, List·getD-append}
@@ -15,49 +15,33 @@ use Rattle.lengths.specs.declared.Length.{Length}
 use Rattle.lengths.specs.declared.Step.{Step}
 use Rattle.lengths.specs.declared.Step.the-variants.{Straight, Diagonal}
 use Rattle.lengths.specs.Rule.{plusStep}
-use Rattle.lengths.specs.Lengths.{Lengths, squareCells}
+use Rattle.lengths.specs.Lengths.{squareCells}
 use Rattle.lengths.proofs.Laws.{LengthLaws, square-laws, stepped-laws}
-use Rattle.ground.specs.Lists.{In, Every, member, upTo, allBelow, howMany, sumOf}
+use Rattle.lists.specs.Lists.{member, upTo, howMany}
 use Rattle.ground.specs.Compass.{Dir, SE, stepOf, squares}
-use Rattle.ground.specs.Grid.{Grid, Link, places, ground, next, inflows, inflowRecord}
-use Rattle.ground.specs.Walk.{At, after, ends, Ring, ringFree}
-use Rattle.ground.specs.Accumulation.{
-  total,
-  gathered,
-  balance,
-  agrees,
-  subaccumulation,
-  accumulation,
-  subaccumulations,
-  accumulations,
-}
-use Rattle.ground.specs.Subwatershed.{firstOutlet, belongs, isOutlet, InSubwatershed, inSubwatershed, HasLength}
+use Rattle.ground.specs.Grid.{Grid, cellCount, ground, next, inflows}
+use Rattle.ground.specs.Walk.{after, ends, Ring, ringFree}
+use Rattle.ground.specs.Accumulation.{total, gathered, balance, agrees, subaccumulation, accumulation}
+use Rattle.ground.specs.Accumulation.{accumulations}
+use Rattle.ground.specs.Subwatershed.{firstOutlet, isOutlet, InSubwatershed, inSubwatershed, HasLength}
 use Rattle.ground.specs.Forest.{size, grow, forest}
-use Rattle.ground.proofs.Lists.{every-map, every-in, all-below, below-all, not-below}
+use Rattle.lists.proofs.Lists.{every-map, all-below, below-all, not-below}
 use Rattle.ground.proofs.Network.{Network, total-same, gathered-size}
-use Rattle.ground.proofs.Agreement.{
-  Agrees,
-  noOutlet,
-  agrees-is,
-  agrees-places,
-  fewer-next,
-  gathered-equation,
-  upstream-equation,
-  upstream-places,
-}
-use Rattle.ground.proofs.Endings.{free-agrees, agrees-free}
+use Rattle.ground.proofs.Agreement.{Agrees, noOutlet, agrees-is, agrees-at-most, gathered-equation}
+use Rattle.ground.proofs.Agreement.{upstream-equation, upstream-at-most}
+use Rattle.ground.proofs.Endings.{free-agrees}
 use Rattle.ground.proofs.Rings.{after-more, no-ring, long-ring}
 use Rattle.ground.proofs.Subwatersheds.{
   first-meets,
   meets-first,
   meets-one,
-  meets-places,
+  meets-at-most,
   first-arrives,
   arrives-first,
-  arrives-places,
+  arrives-at-most,
   belongs-true,
   true-belongs,
-  count-places,
+  count-at-most,
 }
 use Rattle.ground.proofs.Cells.{ground-sub, null-sub, ground-balance, null-balance}
 use Rattle.ground.proofs.GridNetwork.{network, record-sum}
@@ -89,7 +73,8 @@ pub grid-at : (f : ℕ → ℕ) (n x : ℕ) → x < n → getD (map f (upTo n)) 
 grid-at f zero x h = absurd (omega arith)
 grid-at f (suc n) x h = go (eqb x n) refl (grid-at f n x)
   where
-    go : (b : Bool) → eqb x n ≡ b → (x < n → getD (map f (upTo n)) x 0 ≡ f x) → getD (map f (upTo n ++ (n ∷ []))) x 0 ≡ f x
+    go : (b : Bool) → eqb x n ≡ b → (x < n → getD (map f (upTo n)) x 0 ≡ f x)
+        → getD (map f (upTo n ++ (n ∷ []))) x 0 ≡ f x
     go true e ih = rw (map-append f (upTo n) (n ∷ []))
         (getD-at (map f (upTo n)) (f n) [] 0 x (grid-length f n ∙ sym (eqb-true x n e)) ∙ ap f (sym (eqb-true x n e)))
     go false e ih = let k : x < n = below (eqb-false x n e) in
@@ -101,26 +86,26 @@ grid-at f (suc n) x h = go (eqb x n) refl (grid-at f n x)
         below k = omega arith
 
 module _ (g : Grid) where
-  pub 𝓝 : Network (next g) (inflows g) (ground g) (places g)
+  pub 𝓝 : Network (next g) (inflows g) (ground g) (cellCount g)
   𝓝 = network g
 
   -- RINGS: where the test of check 13 fails there is a ring,
   pub ring-found : ringFree g ≡ false → Ring (next g) (ground g)
   unfolding ringFree
-  ring-found h = let p = not-below (ends (next g) (places g)) (places g) h in
-      long-ring (next g) (inflows g) (ground g) (places g) 𝓝 (p .0) (p .1)
+  ring-found h = let p = not-below (ends (next g) (cellCount g)) (cellCount g) h in
+      long-ring (next g) (inflows g) (ground g) (cellCount g) 𝓝 (p .0) (p .1)
 
-  free-ends : ringFree g ≡ true → (x : ℕ) → ground g x ≡ true → ends (next g) (places g) x ≡ true
+  free-ends : ringFree g ≡ true → (x : ℕ) → ground g x ≡ true → ends (next g) (cellCount g) x ≡ true
   unfolding ringFree
-  free-ends h x v = all-below (ends (next g) (places g)) (places g) h x (𝓝 .bounded x v)
+  free-ends h x v = all-below (ends (next g) (cellCount g)) (cellCount g) h x (𝓝 .bounded x v)
 
   -- and it passes exactly if no walk comes back to a cell
   pub ring-free : (ringFree g ≡ true) ↔ (Ring (next g) (ground g) → ⊥)
   ring-free = (there, λ f. back f (ringFree g) refl)
     where
       there : ringFree g ≡ true → Ring (next g) (ground g) → ⊥
-      there h r = no-ring (next g) (inflows g) (ground g) (places g) 𝓝 (gathered (inflows g) noOutlet (places g))
-          (free-agrees (next g) (inflows g) (ground g) (places g) 𝓝 (free-ends h)) r
+      there h r = no-ring (next g) (inflows g) (ground g) (cellCount g) 𝓝 (gathered (inflows g) noOutlet (cellCount g))
+          (free-agrees (next g) (inflows g) (ground g) (cellCount g) 𝓝 (free-ends h)) r
 
       back : (Ring (next g) (ground g) → ⊥) → (b : Bool) → ringFree g ≡ b → b ≡ true
       back f true e = refl
@@ -131,10 +116,10 @@ module _ (g : Grid) where
       → balance g a x ≡ suc (total (inflows g) noOutlet (λ y. getD a y 0) (inflows g x))
   balance-is a x v = ground-balance g a x v ∙ ap suc (record-sum g a x v)
 
-  agrees-at : (a : List ℕ) → agrees g a ≡ true → (x : ℕ) → x < places g → getD a x 0 ≡ balance g a x
+  agrees-at : (a : List ℕ) → agrees g a ≡ true → (x : ℕ) → x < cellCount g → getD a x 0 ≡ balance g a x
   unfolding agrees
   agrees-at a h x i = eqb-true (getD a x 0) (balance g a x)
-      (all-below (λ y. eqb (getD a y 0) (balance g a y)) (places g) h x i)
+      (all-below (λ y. eqb (getD a y 0) (balance g a y)) (cellCount g) h x i)
 
   -- a list that passes check 14 fulfils the equation of the network
   pub lent : (a : List ℕ) → agrees g a ≡ true → Agrees (inflows g) (ground g) (λ x. getD a x 0)
@@ -142,38 +127,40 @@ module _ (g : Grid) where
   lent a h x v = agrees-at a h x (𝓝 .bounded x v) ∙ balance-is a x v
 
   -- AT MOST ONE SOLUTION: what agrees is the accumulation
-  pub agrees-accumulation : (a : List ℕ) → agrees g a ≡ true → (x : ℕ) → x < places g → getD a x 0 ≡ accumulation g x
+  pub agrees-accumulation : (a : List ℕ) → agrees g a ≡ true → (x : ℕ) → x < cellCount g → getD a x 0 ≡ accumulation g x
   agrees-accumulation a h x i = go (ground g x) refl
     where
       go : (b : Bool) → ground g x ≡ b → getD a x 0 ≡ accumulation g x
-      go true v = rw (ground-sub g [] x v) (agrees-is (next g) (inflows g) (ground g) (places g) 𝓝 (λ y. getD a y 0)
+      go true v = rw (ground-sub g [] x v) (agrees-is (next g) (inflows g) (ground g) (cellCount g) 𝓝 (λ y. getD a y 0)
           (lent a h) x v)
       go false v = rw (null-sub g [] x v) (agrees-at a h x i ∙ null-balance g a x v)
 
-  pub agrees-one : (a b : List ℕ) → agrees g a ≡ true → agrees g b ≡ true → (x : ℕ) → x < places g → getD a x 0 ≡ getD b x 0
+  pub agrees-one : (a b : List ℕ) → agrees g a ≡ true → agrees g b ≡ true → (x : ℕ) → x < cellCount g
+      → getD a x 0 ≡ getD b x 0
   agrees-one a b h k x i = agrees-accumulation a h x i ∙ sym (agrees-accumulation b k x i)
 
   -- NONE ON A RING
   pub agrees-no-ring : (a : List ℕ) → agrees g a ≡ true → Ring (next g) (ground g) → ⊥
-  agrees-no-ring a h r = no-ring (next g) (inflows g) (ground g) (places g) 𝓝 (λ x. getD a x 0) (lent a h) r
+  agrees-no-ring a h r = no-ring (next g) (inflows g) (ground g) (cellCount g) 𝓝 (λ x. getD a x 0) (lent a h) r
 
   -- ONE WHERE THERE IS NO RING: the accumulation fulfils the equation
   free-equation : ringFree g ≡ true → (x : ℕ) → ground g x ≡ true
       → accumulation g x ≡ suc (total (inflows g) noOutlet (accumulation g) (inflows g x))
   unfolding Agrees
   free-equation h x v = ground-sub g [] x v ∙ free x v
-      ∙ ap suc (total-same (inflows g) noOutlet (gathered (inflows g) noOutlet (places g)) (accumulation g) (inflows g x)
+      ∙ ap suc (total-same (inflows g) noOutlet (gathered (inflows g) noOutlet (cellCount g)) (accumulation g)
+      (inflows g x)
       (every-map (λ k. next g (k .cell) ≡ some (record { cell = x; step = k .step }))
-      (λ k. gathered (inflows g) noOutlet (places g) (k .cell) ≡ accumulation g (k .cell))
+      (λ k. gathered (inflows g) noOutlet (cellCount g) (k .cell) ≡ accumulation g (k .cell))
       (λ k e. sym (ground-sub g [] (k .cell) (𝓝 .solid (k .cell) (record { cell = x; step = k .step }) e)))
       (inflows g x) (𝓝 .sound x)))
     where
-      free : Agrees (inflows g) (ground g) (gathered (inflows g) noOutlet (places g))
-      free = free-agrees (next g) (inflows g) (ground g) (places g) 𝓝 (free-ends h)
+      free : Agrees (inflows g) (ground g) (gathered (inflows g) noOutlet (cellCount g))
+      free = free-agrees (next g) (inflows g) (ground g) (cellCount g) 𝓝 (free-ends h)
 
   pub free-agree : ringFree g ≡ true → agrees g (accumulations g) ≡ true
   unfolding agrees
-  free-agree h = below-all (λ x. eqb (getD (accumulations g) x 0) (balance g (accumulations g) x)) (places g)
+  free-agree h = below-all (λ x. eqb (getD (accumulations g) x 0) (balance g (accumulations g) x)) (cellCount g)
       (λ x i. eq-eqb (getD (accumulations g) x 0) (balance g (accumulations g) x) (at x i (ground g x) refl))
     where
       same : (x : ℕ) → total (inflows g) noOutlet (accumulation g) (inflows g x) ≡ total (inflows g) noOutlet
@@ -181,14 +168,15 @@ module _ (g : Grid) where
       same x = total-same (inflows g) noOutlet (accumulation g) (λ y. getD (accumulations g) y 0) (inflows g x)
           (every-map (λ k. next g (k .cell) ≡ some (record { cell = x; step = k .step }))
           (λ k. accumulation g (k .cell) ≡ getD (accumulations g) (k .cell) 0)
-          (λ k e. sym (grid-at (accumulation g) (places g) (k .cell)
+          (λ k e. sym (grid-at (accumulation g) (cellCount g) (k .cell)
           (𝓝 .bounded (k .cell) (𝓝 .solid (k .cell) (record { cell = x; step = k .step }) e)))) (inflows g x)
           (𝓝 .sound x))
 
-      at : (x : ℕ) → x < places g → (b : Bool) → ground g x ≡ b → getD (accumulations g) x 0 ≡ balance g (accumulations g) x
-      at x i true v = grid-at (accumulation g) (places g) x i ∙ free-equation h x v ∙ ap suc (same x)
+      at : (x : ℕ) → x < cellCount g → (b : Bool) → ground g x ≡ b
+          → getD (accumulations g) x 0 ≡ balance g (accumulations g) x
+      at x i true v = grid-at (accumulation g) (cellCount g) x i ∙ free-equation h x v ∙ ap suc (same x)
           ∙ sym (balance-is (accumulations g) x v)
-      at x i false v = grid-at (accumulation g) (places g) x i ∙ null-sub g [] x v
+      at x i false v = grid-at (accumulation g) (cellCount g) x i ∙ null-sub g [] x v
           ∙ sym (null-balance g (accumulations g) x v)
 
   -- so check 13 and check 14 ask the same: some list agrees exactly if the grid is free of rings
@@ -203,41 +191,43 @@ module _ (g : Grid) where
   module _ (a : List ℕ) (h : agrees g a ≡ true) where
     -- IT GROWS STRICTLY ALONG WALKS: by one at least with each step
     pub grows-along : (k c x : ℕ) → after (next g) k c ≡ some x → getD a c 0 + k ≤ getD a x 0
-    grows-along k c x e = after-more (next g) (inflows g) (ground g) (places g) 𝓝 (λ y. getD a y 0) (lent a h) k c x e
+    grows-along k c x e = after-more (next g) (inflows g) (ground g) (cellCount g) 𝓝 (λ y. getD a y 0)
+        (lent a h) k c x e
 
     -- and is at most R × C
-    pub at-most-places : (x : ℕ) → ground g x ≡ true → getD a x 0 ≤ places g
-    at-most-places x v = agrees-places (next g) (inflows g) (ground g) (places g) 𝓝 (λ y. getD a y 0) (lent a h) x v
+    pub at-most-cells : (x : ℕ) → ground g x ≡ true → getD a x 0 ≤ cellCount g
+    at-most-cells x v = agrees-at-most (next g) (inflows g) (ground g) (cellCount g) 𝓝 (λ y. getD a y 0) (lent a h) x v
 
     module _ (outlets : List ℕ) where
       -- SUBACCUMULATION: 1 and the sum over the inflows, outlets left out
       pub sub-equation : (x : ℕ) → ground g x ≡ true
           → subaccumulation g outlets x ≡ suc (total (inflows g) (isOutlet g outlets) (subaccumulation g outlets)
           (inflows g x))
-      sub-equation x v = ground-sub g outlets x v ∙ gathered-equation (next g) (inflows g) (ground g) (places g) 𝓝
+      sub-equation x v = ground-sub g outlets x v ∙ gathered-equation (next g) (inflows g) (ground g) (cellCount g) 𝓝
           (λ y. getD a y 0) (lent a h) (isOutlet g outlets) x v
-          ∙ ap suc (total-same (inflows g) (isOutlet g outlets) (gathered (inflows g) (isOutlet g outlets) (places g))
+          ∙ ap suc (total-same (inflows g) (isOutlet g outlets)
+          (gathered (inflows g) (isOutlet g outlets) (cellCount g))
           (subaccumulation g outlets) (inflows g x)
           (every-map (λ k. next g (k .cell) ≡ some (record { cell = x; step = k .step }))
-          (λ k. gathered (inflows g) (isOutlet g outlets) (places g) (k .cell) ≡ subaccumulation g outlets (k .cell))
+          (λ k. gathered (inflows g) (isOutlet g outlets) (cellCount g) (k .cell) ≡ subaccumulation g outlets (k .cell))
           (λ k e. sym (ground-sub g outlets (k .cell) (𝓝 .solid (k .cell) (record { cell = x; step = k .step }) e)))
           (inflows g x) (𝓝 .sound x)))
 
       -- it is the number of cells of the forest and the cell itself
       pub sub-size : (x : ℕ) → ground g x ≡ true → subaccumulation g outlets x ≡ suc (size (forest g outlets x))
       unfolding forest
-      sub-size x v = rw (ground-sub g outlets x v) (gathered-size (inflows g) (isOutlet g outlets) (places g) x)
+      sub-size x v = rw (ground-sub g outlets x v) (gathered-size (inflows g) (isOutlet g outlets) (cellCount g) x)
 
-      pub sub-places : (x : ℕ) → ground g x ≡ true → subaccumulation g outlets x ≤ places g
+      pub sub-at-most : (x : ℕ) → ground g x ≡ true → subaccumulation g outlets x ≤ cellCount g
       unfolding forest
-      sub-places x v = rw (sub-size x v) (upstream-places (next g) (inflows g) (ground g) (places g) 𝓝
-          (λ y. getD a y 0) (lent a h) (isOutlet g outlets) (places g) x v)
+      sub-at-most x v = rw (sub-size x v) (upstream-at-most (next g) (inflows g) (ground g) (cellCount g) 𝓝
+          (λ y. getD a y 0) (lent a h) (isOutlet g outlets) (cellCount g) x v)
 
       -- the forest above a cell: its inflows in order, outlets left out, each with the forest above it
       pub forest-equation : (x : ℕ) → ground g x ≡ true → forest g outlets x ≡ grow (inflows g) (isOutlet g outlets)
           (forest g outlets) (inflows g x)
       unfolding forest
-      forest-equation x v = upstream-equation (next g) (inflows g) (ground g) (places g) 𝓝 (λ y. getD a y 0)
+      forest-equation x v = upstream-equation (next g) (inflows g) (ground g) (cellCount g) 𝓝 (λ y. getD a y 0)
           (lent a h) (isOutlet g outlets) x v
 
       module _ (o : ℕ) (listed : member o outlets ≡ true) (v : ground g o ≡ true) where
@@ -248,29 +238,30 @@ module _ (g : Grid) where
           where
             there : InSubwatershed g outlets o c → inSubwatershed g outlets o c ≡ true
             there m =
-                let r = meets-first squares (next g) (isOutlet g outlets) (places g) o c listed m
-                (meets-places squares (next g) (isOutlet g outlets) (inflows g) (ground g) (places g) 𝓝
+                let r = meets-first squares (next g) (isOutlet g outlets) (cellCount g) o c listed m
+                (meets-at-most squares (next g) (isOutlet g outlets) (inflows g) (ground g) (cellCount g) 𝓝
                 (λ x. getD a x 0) (lent a h) o c v m) in
-                belongs-true squares (next g) (isOutlet g outlets) (places g) o c (r .0) (r .1)
+                belongs-true squares (next g) (isOutlet g outlets) (cellCount g) o c (r .0) (r .1)
 
             back : inSubwatershed g outlets o c ≡ true → InSubwatershed g outlets o c
-            back e = let r = true-belongs squares (next g) (isOutlet g outlets) (places g) o c e in
-                first-meets squares (next g) (isOutlet g outlets) (places g) c (record { cell = o; len = r .0 }) (r .1)
+            back e = let r = true-belongs squares (next g) (isOutlet g outlets) (cellCount g) o c e in
+                first-meets squares (next g) (isOutlet g outlets) (cellCount g) c (record { cell = o; len = r .0 })
+                (r .1)
 
         -- THE COUNT: an outlet has as many cells as its subaccumulation says
-        pub sub-cells : howMany (inSubwatershed g outlets o) (places g) ≡ subaccumulation g outlets o
+        pub sub-cells : howMany (inSubwatershed g outlets o) (cellCount g) ≡ subaccumulation g outlets o
         unfolding forest inSubwatershed
-        sub-cells = count-places squares (next g) (isOutlet g outlets) (inflows g) (ground g) (places g) 𝓝
-            (λ x. getD a x 0) (lent a h) o listed v (places g) ∙ sym (sub-size o v)
+        sub-cells = count-at-most squares (next g) (isOutlet g outlets) (inflows g) (ground g) (cellCount g) 𝓝
+            (λ x. getD a x 0) (lent a h) o listed v (cellCount g) ∙ sym (sub-size o v)
 
         -- THE LENGTH: what the walk's state holds on arrival is what `firstOutlet` gives
         pub length-first : (c : ℕ) (l : Length)
-            → HasLength g outlets o c l ↔ (firstOutlet squares (next g) (isOutlet g outlets) (places g) c
+            → HasLength g outlets o c l ↔ (firstOutlet squares (next g) (isOutlet g outlets) (cellCount g) c
             ≡ some (record { cell = o; len = l }))
         length-first c l = (
-          λ p. arrives-first squares (next g) (isOutlet g outlets) squares-turn (places g) o
-              (record { cell = c; len = l }) listed p (arrives-places squares (next g) (isOutlet g outlets)
-              (inflows g) (ground g) (places g) 𝓝 (λ x. getD a x 0) (lent a h) o (record { cell = c; len = l }) v p),
-          λ e. first-arrives squares (next g) (isOutlet g outlets) squares-turn (places g) c
+          λ p. arrives-first squares (next g) (isOutlet g outlets) squares-turn (cellCount g) o
+              (record { cell = c; len = l }) listed p (arrives-at-most squares (next g) (isOutlet g outlets)
+              (inflows g) (ground g) (cellCount g) 𝓝 (λ x. getD a x 0) (lent a h) o (record { cell = c; len = l }) v p),
+          λ e. first-arrives squares (next g) (isOutlet g outlets) squares-turn (cellCount g) c
               (record { cell = o; len = l }) e,
         )

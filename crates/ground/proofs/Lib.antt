@@ -1,4 +1,3 @@
-pub mod Lists
 pub mod Sums
 pub mod Walks
 pub mod Network
@@ -9,5 +8,3 @@ pub mod Subwatersheds
 pub mod Cells
 pub mod GridNetwork
 pub mod Ground
-pub mod Moves
-pub mod InflowRecord

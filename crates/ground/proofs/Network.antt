@@ -9,13 +9,13 @@ use mathlib.Core.Option.{Option, none, some}
 use Prim.Native.Nat.{ℕ, zero, suc, _+_, _≤_, _<_}
 use native.Mathlib.Omega.{arith}
 use Rattle.lengths.specs.Lengths.{Lengths}
-use Rattle.ground.specs.Lists.{In, Every}
+use Rattle.lists.specs.Lists.{In, Every}
 use Rattle.ground.specs.Grid.{Link}
 use Rattle.ground.specs.Walk.{At}
 use Rattle.ground.specs.Accumulation.{total, gathered}
 use Rattle.ground.specs.Subwatershed.{longer, firstOutlet}
 use Rattle.ground.specs.Forest.{Forest, bare, tree, size, grow, upstream, everyCell, cellsAbove, cellsFrom}
-use Rattle.ground.proofs.Lists.{every-append, every-map, in-left, in-right, in-cases, every-in}
+use Rattle.lists.proofs.Lists.{every-append, in-left, in-right, in-cases}
 use Rattle.ground.proofs.Sums.{one}
 
 -- how often a cell stands in a list of links, and in a forest
@@ -29,13 +29,13 @@ count c (tree y s above rest) = one y c + (count c above + count c rest)
 
 -- the laws of a network: ups are what flows in, each once, and ground is within bounds
 pub record Network {S : Type 0} (next : ℕ → Option (Link S)) (ups : ℕ → List (Link S)) (ground : ℕ → Bool)
-    (places : ℕ) : Type 0 where
+    (cellCount : ℕ) : Type 0 where
   pub sound : (x : ℕ) → Every (λ k. next (k .cell) ≡ some (record { cell = x; step = k .step })) (ups x)
   pub complete : (y : ℕ) (h : Link S) → next y ≡ some h → In (record { cell = y; step = h .step }) (ups (h .cell))
   pub distinct : (x c : ℕ) → times c (ups x) ≤ 1
   pub solid : (y : ℕ) (h : Link S) → next y ≡ some h → ground y ≡ true
   pub lands : (y : ℕ) (h : Link S) → next y ≡ some h → ground (h .cell) ≡ true
-  pub bounded : (x : ℕ) → ground x ≡ true → x < places
+  pub bounded : (x : ℕ) → ground x ≡ true → x < cellCount
 
 -- tallies are sizes
 module _ {S : Type 0} (ups : ℕ → List (Link S)) (outlet : ℕ → Bool) where
@@ -61,7 +61,8 @@ module _ {S : Type 0} (ups : ℕ → List (Link S)) (outlet : ℕ → Bool) wher
 
   pub gathered-size : (n x : ℕ) → gathered ups outlet n x ≡ suc (size (upstream ups outlet n x))
   gathered-size zero x = refl
-  gathered-size (suc n) x = ap suc (total-size (gathered ups outlet n) (upstream ups outlet n) (gathered-size n) (ups x))
+  gathered-size (suc n) x = ap suc (total-size (gathered ups outlet n) (upstream ups outlet n) (gathered-size n)
+      (ups x))
 
 -- firstOutlet
 module _ {S : Type 0} (𝓛 : Lengths S) (next : ℕ → Option (Link S)) (outlet : ℕ → Bool) where
@@ -130,7 +131,8 @@ module _ {S : Type 0} (𝓛 : Lengths S) (next : ℕ → Option (Link S)) (outle
           by-out : (b : Bool) → outlet c ≡ b → (t : Option (Link S)) → next c ≡ t
               → ((c′ : ℕ) (a′ : At Len) → firstOutlet 𝓛 next outlet n c′ ≡ some a′ → P n c′ a′) → P (suc n) c a
           by-out true v t f ih = there (suc n) c a e v
-          by-out false v none f ih = let z = first-end (suc n) c v f in let w : _≡_ {A = ℕ} 0 1 = cc in absurd (omega arith)
+          by-out false v none f ih = let z = first-end (suc n) c v f in let w : _≡_ {A = ℕ} 0 1 = cc in
+              absurd (omega arith)
           by-out false v (some h) f ih = step (firstOutlet 𝓛 next outlet n (h .cell)) refl
             where
               step : (r : Option (At Len)) → firstOutlet 𝓛 next outlet n (h .cell) ≡ r → P (suc n) c a
@@ -142,7 +144,7 @@ module _ {S : Type 0} (𝓛 : Lengths S) (next : ℕ → Option (Link S)) (outle
                   let q : record { cell = a′ .cell; len = a′ .len ▹ h .step } ≡ a = cc in
                   subst (P (suc n) c) q (on n c h a′ v f g (ih (h .cell) a′ g))
 
-  module _ (ups : ℕ → List (Link S)) (ground : ℕ → Bool) (places : ℕ) (𝓝 : Network next ups ground places) where
+  module _ (ups : ℕ → List (Link S)) (ground : ℕ → Bool) (cellCount : ℕ) (𝓝 : Network next ups ground cellCount) where
     -- what a forest lists reaches the outlet, at the length listed
     listed-first : (n x : ℕ) (d : Len) (o k m : ℕ)
         → firstOutlet 𝓛 next outlet k x ≡ some (record { cell = o; len = d }) → n + k ≤ m
@@ -179,7 +181,8 @@ module _ {S : Type 0} (𝓛 : Lengths S) (next : ℕ → Option (Link S)) (outle
                 at = first-next k (j .cell) (record { cell = x; step = j .step }) f (s .0) ∙ ap (longer 𝓛 (j .step)) e
 
     -- a kid that is no outlet is listed
-    inflow-listed : (f : ℕ → Forest S) (d : Len) (k : Link S) → outlet (k .cell) ≡ false → (ks : List (Link S)) → In k ks
+    inflow-listed : (f : ℕ → Forest S) (d : Len) (k : Link S) → outlet (k .cell) ≡ false → (ks : List (Link S))
+        → In k ks
         → In (record { cell = k .cell; len = d ▹ k .step }) (cellsAbove 𝓛 everyCell d (grow ups outlet f ks))
     inflow-listed f d k u [] i = absurd i
     inflow-listed f d k u (j ∷ ks) i = step (outlet (j .cell)) refl (inflow-listed f d k u ks) i
@@ -191,7 +194,8 @@ module _ {S : Type 0} (𝓛 : Lengths S) (next : ℕ → Option (Link S)) (outle
             → In k (j ∷ ks) → In a (cellsAbove 𝓛 everyCell d (grow ups outlet f (j ∷ ks)))
         step true v ih (inl e) = absurd (true≢false (sym v ∙ ap (λ (l : Link S). outlet (l .cell)) (sym e) ∙ u))
         step true v ih (inr m) = rw (v, grow) (ih m)
-        step false v ih (inl e) = rw (v, grow) (inl (ap (λ (l : Link S). record { cell = l .cell; len = d ▹ l .step }) e))
+        step false v ih (inl e) = rw (v, grow)
+            (inl (ap (λ (l : Link S). record { cell = l .cell; len = d ▹ l .step }) e))
         step false v ih (inr m) =
             rw (v, grow) (inr (in-right a (cellsAbove 𝓛 everyCell (d ▹ j .step) (f (j .cell)))
             (cellsAbove 𝓛 everyCell d (grow ups outlet f ks)) (ih m)))
@@ -199,7 +203,8 @@ module _ {S : Type 0} (𝓛 : Lengths S) (next : ℕ → Option (Link S)) (outle
     -- with one step more allowed, the ups of what was listed are listed
     one-more : (n z : ℕ) (d : Len) (a : At Len) (k : Link S) → outlet (k .cell) ≡ false → In k (ups (a .cell))
         → In a (cellsAbove 𝓛 everyCell d (upstream ups outlet n z))
-        → In (record { cell = k .cell; len = a .len ▹ k .step }) (cellsAbove 𝓛 everyCell d (upstream ups outlet (suc n) z))
+        → In (record { cell = k .cell; len = a .len ▹ k .step })
+        (cellsAbove 𝓛 everyCell d (upstream ups outlet (suc n) z))
     one-more zero z d a k u i m = absurd m
     one-more (suc n) z d a k u i m = go (ups z) (λ y d′. one-more n y d′ a k u i) m
       where
@@ -245,7 +250,8 @@ module _ {S : Type 0} (𝓛 : Lengths S) (next : ℕ → Option (Link S)) (outle
     -- what reaches the outlet is listed
     next-listed : (n o : ℕ) (a : At Len) (k : Link S) → outlet (k .cell) ≡ false → In k (ups (a .cell))
         → In a (cellsFrom 𝓛 everyCell o (upstream ups outlet n o))
-        → In (record { cell = k .cell; len = a .len ▹ k .step }) (cellsFrom 𝓛 everyCell o (upstream ups outlet (suc n) o))
+        → In (record { cell = k .cell; len = a .len ▹ k .step })
+        (cellsFrom 𝓛 everyCell o (upstream ups outlet (suc n) o))
     next-listed n o a k u i (inl e) =
         inr (subst (λ (x : At Len). In (record { cell = k .cell; len = x .len ▹ k .step })
         (cellsAbove 𝓛 everyCell start (upstream ups outlet (suc n) o))) (sym e)

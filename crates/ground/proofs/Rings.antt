@@ -16,8 +16,8 @@ use Rattle.ground.proofs.Walks.{ends-next, ends-none, after-next, after
 use Rattle.ground.proofs.Network.{Network}
 use Rattle.ground.proofs.Agreement.{Agrees, fewer-next}
 
-module _ {S : Type 0} (next : ℕ → Option (Link S)) (ups : ℕ → List (Link S)) (ground : ℕ → Bool) (places : ℕ)
-    (𝓝 : Network next ups ground places) where
+module _ {S : Type 0} (next : ℕ → Option (Link S)) (ups : ℕ → List (Link S)) (ground : ℕ → Bool) (cellCount : ℕ)
+    (𝓝 : Network next ups ground cellCount) where
   -- where an accumulation agrees, it grows along a walk
   module _ (A : ℕ → ℕ) (agrees : Agrees ups ground A) where
     pub after-more : (k c x : ℕ) → after next k c ≡ some x → A c + k ≤ A x
@@ -25,12 +25,13 @@ module _ {S : Type 0} (next : ℕ → Option (Link S)) (ups : ℕ → List (Link
         omega (arith, ap A q)
     after-more (suc k) c x e = go (next c) refl (λ c′. after-more k c′ x)
       where
-        go : (o : Option (Link S)) → next c ≡ o → ((c′ : ℕ) → after next k c′ ≡ some x → A c′ + k ≤ A x) → A c + suc k ≤ A x
+        go : (o : Option (Link S)) → next c ≡ o → ((c′ : ℕ) → after next k c′ ≡ some x → A c′ + k ≤ A x)
+            → A c + suc k ≤ A x
         go none f ih = let p : none ≡ some x = sym (after-end next k c f) ∙ e in let w : _≡_ {A = ℕ} 0 1 = cc in
             absurd (omega arith)
         go (some h) f ih = omega (
           arith,
-          fewer-next next ups ground places 𝓝 A agrees c h f,
+          fewer-next next ups ground cellCount 𝓝 A agrees c h f,
           ih (h .cell) (sym (after-next next k c h f) ∙ e),
         )
 
@@ -70,19 +71,19 @@ module _ {S : Type 0} (next : ℕ → Option (Link S)) (ups : ℕ → List (Link
           (suc (p .0), after-next next (p .0) x l f ∙ p .1)
 
   -- a walk of n steps sees n + 1 cells
-  walk-long : (n x : ℕ) → ground x ≡ true → ends next n x ≡ false → sumTo places (seen n x) ≡ suc n
+  walk-long : (n x : ℕ) → ground x ≡ true → ends next n x ≡ false → sumTo cellCount (seen n x) ≡ suc n
   unfolding seen
-  walk-long zero x v e = sum-one places x (𝓝 .bounded x v)
+  walk-long zero x v e = sum-one cellCount x (𝓝 .bounded x v)
   walk-long (suc n) x v e = go (next x) refl (λ y. walk-long n y)
     where
       go : (o : Option (Link S)) → next x ≡ o → ((y : ℕ) → ground y ≡ true → ends next n y ≡ false
-          → sumTo places (seen n y) ≡ suc n) → sumTo places (seen (suc n) x) ≡ suc (suc n)
+          → sumTo cellCount (seen n y) ≡ suc n) → sumTo cellCount (seen (suc n) x) ≡ suc (suc n)
       go none f ih = absurd (true≢false (sym (ends-none next (suc n) x f) ∙ e))
-      go (some h) f ih = ap (sumTo places) (fun-ext (λ c. seen-next n x c h f))
+      go (some h) f ih = ap (sumTo cellCount) (fun-ext (λ c. seen-next n x c h f))
           ∙ omega (
             arith,
-            sum-add places (one x) (seen n (h .cell)),
-            sum-one places x (𝓝 .bounded x v),
+            sum-add cellCount (one x) (seen n (h .cell)),
+            sum-one cellCount x (𝓝 .bounded x v),
             ih (h .cell) (𝓝 .lands x h f) (sym (ends-next next n x h f) ∙ e),
           )
 
@@ -109,14 +110,14 @@ module _ {S : Type 0} (next : ℕ → Option (Link S)) (ups : ℕ → List (Link
           }
 
   -- a walk that does not end within as many steps as there are places comes back to a cell
-  pub long-ring : (x : ℕ) → ends next places x ≡ false → Ring next ground
+  pub long-ring : (x : ℕ) → ends next cellCount x ≡ false → Ring next ground
   long-ring x e = go (next x) refl
     where
       go : (o : Option (Link S)) → next x ≡ o → Ring next ground
-      go none f = absurd (true≢false (sym (ends-none next places x f) ∙ e))
+      go none f = absurd (true≢false (sym (ends-none next cellCount x f) ∙ e))
       go (some h) f = let v = 𝓝 .solid x h f in
-          let p = sum-more places (seen places x) (omega (arith, walk-long places x v e)) in
-          seen-twice places x (p .0) v (p .1)
+          let p = sum-more cellCount (seen cellCount x) (omega (arith, walk-long cellCount x v e)) in
+          seen-twice cellCount x (p .0) v (p .1)
 
   -- a walk that is at one cell after j steps and again after m has a ring: it need not begin on it
   pub come-back : (j m c x : ℕ) → ground c ≡ true → j < m → after next j c ≡ some x → after next m c ≡ some x

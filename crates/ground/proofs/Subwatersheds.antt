@@ -1,10 +1,9 @@
--- The subwatershed and the length in 01's words are what `firstOutlet` finds; the cells are counted; the subwatersheds of
--- two outlets share no cell.
--- Assumes nothing.
+-- The subwatershed and the length in 01's words are what `firstOutlet` finds; the cells are counted; the subwatersheds
+-- of two outlets share no cell. Assumes nothing.
 use mathlib.Core.Path.{_≡_, refl, sym, ap, ap₂, _∙_, subst, fun-ext}
 use mathlib.Core.Bool.{Bool, true, false, cond, true≢false}
-use mathlib.Core.Logic.{_⊎_, inl, inr}
-use mathlib.Core.List.{List, [], _∷_, _++_}
+use mathlib.Core.Logic.{inl, inr}
+use mathlib.Core.List.{List}
 use mathlib.Core.Option.{Option, none, some}
 use Prim.Native.Nat.{ℕ, zero, suc, _+_, _≤_, _<_}
 use native.Mathlib.Omega.{arith}
@@ -12,16 +11,16 @@ use native.Mathlib.Decide.{decLt}
 use lib.Dec.{eqb}
 use borrow.Author.Tests.{eqb-true, eqb-false, eq-eqb}
 use Rattle.lengths.specs.Lengths.{Lengths}
-use Rattle.ground.specs.Lists.{In, howMany}
+use Rattle.lists.specs.Lists.{In, howMany}
 use Rattle.ground.specs.Grid.{Link}
 use Rattle.ground.specs.Walk.{At, after, strides}
 use Rattle.ground.specs.Subwatershed.{MeetsFirst, Arrives, longer, firstOutlet, belongs}
 use Rattle.ground.specs.Forest.{Forest, bare, tree, size, upstream, everyCell, cellsAbove, cellsFrom}
-use Rattle.ground.proofs.Lists.{in-left, in-right, in-cases, every-in}
-use Rattle.ground.proofs.Sums.{one, one-le, one-same, one-other, sumTo, sum-add, sum-one, many-sum}
+use Rattle.lists.proofs.Lists.{in-left, in-right, in-cases, every-in}
+use Rattle.ground.proofs.Sums.{one, one-same, one-other, sumTo, sum-add, sum-one, many-sum}
 use Rattle.ground.proofs.Walks.{after-next, after-end, after-zero, strides-next, strides-end}
 use Rattle.ground.proofs.Network.{count, Network, first-out, first-next, first-induct, first-listed, cells-first}
-use Rattle.ground.proofs.Agreement.{Agrees, agrees-places, count-once, upstream-within, sum-count}
+use Rattle.ground.proofs.Agreement.{Agrees, agrees-at-most, count-once, upstream-within, sum-count}
 use Rattle.ground.proofs.Rings.{after-more}
 
 module _ {S : Type 0} (𝓛 : Lengths S) (next : ℕ → Option (Link S)) (outlet : ℕ → Bool) where
@@ -69,9 +68,6 @@ module _ {S : Type 0} (𝓛 : Lengths S) (next : ℕ → Option (Link S)) (outle
         no-other = λ j x h t v. absurd
             (true≢false (sym v ∙ f .no-outlet j x h t));
       }
-
-  pub first-out-is : (n c : ℕ) (a : At Len) → firstOutlet 𝓛 next outlet n c ≡ some a → outlet (a .cell) ≡ true
-  first-out-is n c a e = (found n c a e) .is-out
 
   -- and the other way, if so many steps are allowed
   meets-within : (k n o c : ℕ) → outlet o ≡ true → after next k c ≡ some o
@@ -173,7 +169,8 @@ module _ {S : Type 0} (𝓛 : Lengths S) (next : ℕ → Option (Link S)) (outle
     arrives-steps o b b′ e v p q =
         elim (decLt (q .steps) (p .steps)) [
           | yes l ↦ absurd
-              (true≢false (sym v ∙ p .no-outlet (q .steps) o l (subst (λ (c : ℕ). after next (q .steps) c ≡ some o) (sym e)
+              (true≢false (sym v ∙ p .no-outlet (q .steps) o l
+              (subst (λ (c : ℕ). after next (q .steps) c ≡ some o) (sym e)
               (strides-after (q .steps) (record { cell = b′ .cell; len = start }) (record { cell = o; len = b′ .len })
               (q .holds)))))
           | no l ↦ omega arith
@@ -249,14 +246,15 @@ module _ {S : Type 0} (𝓛 : Lengths S) (next : ℕ → Option (Link S)) (outle
       go false e (no k) ia ir = let p = ir (omega (arith, one-other y c (eqb-false y c e))) in
           (p .0, inr (in-right (record { cell = c; len = p .0 }) us vs (p .1)))
 
-  module _ (ups : ℕ → List (Link S)) (ground : ℕ → Bool) (places : ℕ) (𝓝 : Network next ups ground places) (A : ℕ → ℕ)
+  module _ (ups : ℕ → List (Link S)) (ground : ℕ → Bool) (cellCount : ℕ) (𝓝 : Network next ups ground cellCount)
+      (A : ℕ → ℕ)
       (agrees : Agrees ups ground A) where
     -- no walk is longer than there are places
-    pub meets-places : (o c : ℕ) → ground o ≡ true → (m : MeetsFirst next outlet o c) → m .steps ≤ places
-    meets-places o c v m = omega (
+    pub meets-at-most : (o c : ℕ) → ground o ≡ true → (m : MeetsFirst next outlet o c) → m .steps ≤ cellCount
+    meets-at-most o c v m = omega (
       arith,
-      after-more next ups ground places 𝓝 A agrees (m .steps) c o (m .meets),
-      agrees-places next ups ground places 𝓝 A agrees o v,
+      after-more next ups ground cellCount 𝓝 A agrees (m .steps) c o (m .meets),
+      agrees-at-most next ups ground cellCount 𝓝 A agrees o v,
     )
 
     module _ (o : ℕ) (is-out : outlet o ≡ true) (v : ground o ≡ true) where
@@ -273,8 +271,9 @@ module _ {S : Type 0} (𝓛 : Lengths S) (next : ℕ → Option (Link S)) (outle
                   → one o c + count c f ≡ 1
               listed p = omega (
                 arith,
-                count-once next ups ground places 𝓝 A agrees outlet n o c v,
-                some-of (first-listed 𝓛 next outlet ups ground places 𝓝 n c (record { cell = o; len = p .0 }) (p .1)),
+                count-once next ups ground cellCount 𝓝 A agrees outlet n o c v,
+                some-of (first-listed 𝓛 next outlet ups ground cellCount 𝓝 n c (record { cell = o; len = p .0 })
+                    (p .1)),
               )
                 where
                   some-of : In (record { cell = c; len = p .0 }) (cellsFrom 𝓛 everyCell o f) → 0 < one o c + count c f
@@ -294,7 +293,7 @@ module _ {S : Type 0} (𝓛 : Lengths S) (next : ℕ → Option (Link S)) (outle
               reached l i = belongs-true n o c l
                   (every-in (λ a. firstOutlet 𝓛 next outlet n (a .cell) ≡ some (record { cell = o; len = a .len }))
                   (record { cell = c; len = l }) (cellsFrom 𝓛 everyCell o f)
-                  (cells-first 𝓛 next outlet ups ground places 𝓝 n o is-out) i)
+                  (cells-first 𝓛 next outlet ups ground cellCount 𝓝 n o is-out) i)
 
               found-in : 0 < one o c + count c f → (b : Bool) → eqb o c ≡ b → belongs 𝓛 next outlet n o c ≡ true
               found-in k true q = reached start
@@ -303,23 +302,24 @@ module _ {S : Type 0} (𝓛 : Lengths S) (next : ℕ → Option (Link S)) (outle
                   reached (p .0) (inr (p .1))
 
       -- the cells of the subwatershed, counted over all places, are those of the forest and the outlet
-      pub count-places : (n : ℕ) → howMany (belongs 𝓛 next outlet n o) places ≡ suc (size (upstream ups outlet n o))
-      count-places n = many-sum (belongs 𝓛 next outlet n o) places
-          ∙ ap (sumTo places) (fun-ext (λ c. sym (upstream-count n c)))
+      pub count-at-most : (n : ℕ) → howMany (belongs 𝓛 next outlet n o) cellCount ≡ suc (size (upstream ups outlet n o))
+      count-at-most n = many-sum (belongs 𝓛 next outlet n o) cellCount
+          ∙ ap (sumTo cellCount) (fun-ext (λ c. sym (upstream-count n c)))
           ∙ omega (
             arith,
-            sum-add places (one o) (λ c. count c (upstream ups outlet n o)),
-            sum-one places o (𝓝 .bounded o v),
-            sum-count places (upstream ups outlet n o)
-                (upstream-within next ups ground places 𝓝 A agrees outlet n o v),
+            sum-add cellCount (one o) (λ c. count c (upstream ups outlet n o)),
+            sum-one cellCount o (𝓝 .bounded o v),
+            sum-count cellCount (upstream ups outlet n o)
+                (upstream-within next ups ground cellCount 𝓝 A agrees outlet n o v),
           )
 
-    pub arrives-places : (o : ℕ) (b : At Len) → ground o ≡ true → (p : Arrives 𝓛 next outlet o b) → p .steps ≤ places
-    arrives-places o b v p =
+    pub arrives-at-most : (o : ℕ) (b : At Len) → ground o ≡ true → (p : Arrives 𝓛 next outlet o b)
+        → p .steps ≤ cellCount
+    arrives-at-most o b v p =
         omega (
           arith,
-          after-more next ups ground places 𝓝 A agrees (p .steps) (b .cell) o
+          after-more next ups ground cellCount 𝓝 A agrees (p .steps) (b .cell) o
               (strides-after (p .steps) (record { cell = b .cell; len = start }) (record { cell = o; len = b .len })
               (p .holds)),
-          agrees-places next ups ground places 𝓝 A agrees o v,
+          agrees-at-most next ups ground cellCount 𝓝 A agrees o v,
         )

@@ -5,8 +5,8 @@ use mathlib.Core.List.{List, [], _∷_, map}
 use Prim.Native.Nat.{ℕ, zero, suc, _+_}
 use lib.ListN.{getD}
 use lib.Dec.{eqb}
-use Rattle.ground.specs.Lists.{member, allBelow, upTo, sumOf}
-use Rattle.ground.specs.Grid.{Grid, Link, places, ground, inflows, inflowRecord}
+use Rattle.lists.specs.Lists.{member, allBelow, upTo, sumOf}
+use Rattle.ground.specs.Grid.{Grid, Link, cellCount, ground, inflows, inflowRecord}
 
 -- 01, Accumulation, as an equation: a null cell has 0, and any other counts itself and what its inflows have. What this
 -- asks of the number at a cell, if the list a holds the neighbours' numbers
@@ -15,7 +15,7 @@ balance g a x = cond (ground g x) (suc (sumOf (inflowRecord g a x))) 0
 
 -- check 14's question: does a list fulfil that equation at every cell?
 unfoldable pub agrees : Grid → List ℕ → Bool
-agrees g a = allBelow (λ x. eqb (getD a x 0) (balance g a x)) (places g)
+agrees g a = allBelow (λ x. eqb (getD a x 0) (balance g a x)) (cellCount g)
 
 -- the sum worked out, over any network: `ups` gives the cells that flow into a cell
 module _ {S : Type 0} (ups : ℕ → List (Link S)) (outlet : ℕ → Bool) where
@@ -33,7 +33,7 @@ module _ (g : Grid) where
   -- 01, Subaccumulation, a term of its own: the same count without what comes by way of an outlet. As many steps up as
   -- there are cells are enough where there is no ring
   unfoldable pub subaccumulation : List ℕ → ℕ → ℕ
-  subaccumulation outlets x = cond (ground g x) (gathered (inflows g) (λ c. member c outlets) (places g) x) 0
+  subaccumulation outlets x = cond (ground g x) (gathered (inflows g) (λ c. member c outlets) (cellCount g) x) 0
 
   abbrev pub accumulation : ℕ → ℕ
   accumulation x = subaccumulation [] x
@@ -44,7 +44,7 @@ module _ (g : Grid) where
 
   -- the grids of these numbers
   abbrev pub subaccumulations : List ℕ → List ℕ
-  subaccumulations outlets = map (subaccumulation outlets) (upTo (places g))
+  subaccumulations outlets = map (subaccumulation outlets) (upTo (cellCount g))
 
   abbrev pub accumulations : List ℕ
   accumulations = subaccumulations []

@@ -4,9 +4,9 @@ use mathlib.Core.Bool.{Bool, true, false}
 use mathlib.Core.List.{List, [], _∷_, _++_}
 use Prim.Native.Nat.{ℕ, zero, suc, _+_}
 use Rattle.lengths.specs.Lengths.{Lengths}
-use Rattle.ground.specs.Lists.{member, keepIf}
+use Rattle.lists.specs.Lists.{member, keepIf}
 use Rattle.ground.specs.Compass.{Dir}
-use Rattle.ground.specs.Grid.{Grid, Link, places, inflows}
+use Rattle.ground.specs.Grid.{Grid, Link, cellCount, inflows}
 use Rattle.ground.specs.Walk.{At}
 
 -- cells side by side in neighbour order: the first, its step down, what lies above it, and the others
@@ -55,4 +55,4 @@ module _ {S : Type 0} (𝓛 : Lengths S) where
 
 -- what lies above a cell of a grid
 unfoldable pub forest : Grid → List ℕ → ℕ → Forest Dir
-forest g outlets x = upstream (inflows g) (λ c. member c outlets) (places g) x
+forest g outlets x = upstream (inflows g) (λ c. member c outlets) (cellCount g) x

@@ -1,12 +1,12 @@
 -- The grid: cells and their codes, neighbours, where a cell flows, what flows into it.
 -- Assumes nothing.
-use mathlib.Core.Bool.{Bool, true, false, cond, not, _||_}
+use mathlib.Core.Bool.{Bool, false, cond, not}
 use mathlib.Core.List.{List, [], _∷_, map}
 use mathlib.Core.Option.{Option, none, some}
-use Prim.Native.Nat.{ℕ, zero, suc, _+_, _*_, _/_, _%_}
+use Prim.Native.Nat.{ℕ, _+_, _*_, _/_, _%_}
 use lib.ListN.{getD}
 use lib.Dec.{eqb, ltb}
-use Rattle.ground.specs.Compass.{Dir, dirs, codeOf, dirOf, opposite, pointsIn, shifted, rowShift, colShift}
+use Rattle.ground.specs.Compass.{Dir, dirs, dirOf, opposite, pointsIn, shifted, rowShift, colShift}
 
 -- 01, The ground: so many rows and columns, and a code for each cell. The codes stand row by row in the first R × C
 -- places of the list
@@ -31,12 +31,12 @@ cellAt cols (some row) (some col) = some (row * cols + col)
 
 module _ (g : Grid) where
   -- the number of cells
-  abbrev pub places : ℕ
-  places = g .rows * g .cols
+  abbrev pub cellCount : ℕ
+  cellCount = g .rows * g .cols
 
   -- the code of a cell; beyond the grid there is no ground
   unfoldable pub codeAt : ℕ → ℕ
-  codeAt x = cond (ltb x places) (getD (g .codes) x 0) 0
+  codeAt x = cond (ltb x cellCount) (getD (g .codes) x 0) 0
 
   -- a null cell, of code 0, has no ground
   abbrev pub ground : ℕ → Bool
@@ -70,8 +70,8 @@ module _ (g : Grid) where
   flowsIn d none = false
   flowsIn d (some y) = pointsIn (opposite d) (codeAt y)
 
-  -- 01's inflow record, a term of its own: in neighbour order, the number of each neighbour that flows in, and 0 for the
-  -- others
+  -- 01's inflow record, a term of its own: in neighbour order, the number of each neighbour that flows in, and 0 for
+  -- the others
   abbrev pub inflowValue : List ℕ → Dir → Option ℕ → ℕ
   inflowValue a d none = 0
   inflowValue a d (some y) = cond (flowsIn d (some y)) (getD a y 0) 0

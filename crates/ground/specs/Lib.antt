@@ -1,8 +1,6 @@
-pub mod Lists
 pub mod Compass
 pub mod Grid
 pub mod Walk
 pub mod Accumulation
 pub mod Subwatershed
 pub mod Forest
-pub mod Moves

@@ -9,14 +9,14 @@ use lib.Dec.{eqb}
 use Rattle.lengths.specs.declared.Length.{Length}
 use Rattle.lengths.specs.Rule.{isShorter}
 use Rattle.lengths.specs.Lengths.{Lengths}
-use Rattle.ground.specs.Lists.{member}
+use Rattle.lists.specs.Lists.{member}
 use Rattle.ground.specs.Compass.{Dir, opposite, placeOf, squares}
-use Rattle.ground.specs.Grid.{Grid, Link, places, next}
+use Rattle.ground.specs.Grid.{Grid, Link, cellCount, next}
 use Rattle.ground.specs.Walk.{At, after, strides}
 
 module _ {S : Type 0} (step : ℕ → Option (Link S)) (outlet : ℕ → Bool) where
-  -- 01, Subwatershed: on the walk from c the outlet o comes before all others. The start is part of the walk: the outlet's
-  -- own walk meets it in no steps, and that of another outlet meets that one first
+  -- 01, Subwatershed: on the walk from c the outlet o comes before all others. The start is part of the walk: the
+  -- outlet's own walk meets it in no steps, and that of another outlet meets that one first
   pub record MeetsFirst (o c : ℕ) : Type 0 where
     pub steps : ℕ
     pub meets : after step steps c ≡ some o
@@ -90,7 +90,7 @@ module _ (g : Grid) (outlets : List ℕ) where
 
   -- the same as a test: check 22's question
   unfoldable pub inSubwatershed : ℕ → ℕ → Bool
-  inSubwatershed o c = belongs squares (next g) isOutlet (places g) o c
+  inSubwatershed o c = belongs squares (next g) isOutlet (cellCount g) o c
 
   -- the walk from c to its outlet o has this length
   abbrev pub HasLength : ℕ → ℕ → Length → Type 0
@@ -98,7 +98,7 @@ module _ (g : Grid) (outlets : List ℕ) where
 
   -- 01's order of starts: at the cell where the two walks come together, c comes by the earlier neighbour
   abbrev pub Before : ℕ → ℕ → Type 0
-  Before c y = Parts (route (next g) isOutlet (places g) c) (route (next g) isOutlet (places g) y)
+  Before c y = Parts (route (next g) isOutlet (cellCount g) c) (route (next g) isOutlet (cellCount g) y)
 
   -- 01, Longest: a cell of the subwatershed whose walk no other's exceeds. Of the cells that may start, which are all
   pub record Longest (may : ℕ → Bool) (o c : ℕ) : Type 0 where
@@ -106,8 +106,9 @@ module _ (g : Grid) (outlets : List ℕ) where
     pub starts : may c ≡ true
     pub len : Length
     pub has : HasLength o c len
-    pub none-longer : (y : ℕ) (l : Length) → InSubwatershed o y → may y ≡ true → HasLength o y l → isShorter len l ≡ false
+    pub none-longer : (y : ℕ) (l : Length) → InSubwatershed o y → may y ≡ true → HasLength o y l
+        → isShorter len l ≡ false
 
   -- the path that drawing draws
   abbrev pub pathFrom : ℕ → List ℕ
-  pathFrom c = walked (next g) isOutlet (places g) c
+  pathFrom c = walked (next g) isOutlet (cellCount g) c

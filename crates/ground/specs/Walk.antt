@@ -6,16 +6,16 @@ use mathlib.Core.Bool.{Bool, true, false}
 use mathlib.Core.Option.{Option, none, some}
 use Prim.Native.Nat.{ℕ, zero, suc, _<_}
 use Rattle.lengths.specs.Lengths.{Lengths}
-use Rattle.ground.specs.Lists.{allBelow}
-use Rattle.ground.specs.Grid.{Grid, Link, places, ground, next}
+use Rattle.lists.specs.Lists.{allBelow}
+use Rattle.ground.specs.Grid.{Grid, Link, cellCount, next}
 
 -- a cell, and a length: of the walk up to it, or of the walk from it to its outlet
 pub record At (L : Type 0) : Type 0 where
   pub cell : ℕ
   pub len : L
 
--- 01: a walk repeats one step on its state, the cell it is at and the steps made so far. The straight and diagonal steps
--- together are the length
+-- 01: a walk repeats one step on its state, the cell it is at and the steps made so far. The straight and diagonal
+-- steps together are the length
 module _ {S : Type 0} (𝓛 : Lengths S) (step : ℕ → Option (Link S)) where
   open Lengths 𝓛 using (Len, _▹_)
 
@@ -49,4 +49,4 @@ module _ {S : Type 0} (step : ℕ → Option (Link S)) where
 
 -- check 13's question as a test: does every walk end, within as many steps as there are cells?
 unfoldable pub ringFree : Grid → Bool
-ringFree g = allBelow (ends (next g) (places g)) (places g)
+ringFree g = allBelow (ends (next g) (cellCount g)) (cellCount g)

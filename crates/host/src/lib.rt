@@ -1,18 +1,15 @@
-// The library's entries for programs in C: each slice is a pointer and a count of elements, and each function returns the
-// refusal number. Slices of one call must not overlap.
+// The library's entries for programs in C: each slice is a pointer and a count of elements, and each function returns
+// the refusal number. Slices of one call must not overlap.
 use answers::Answer;
 use answers::Traced;
 ghost use mathlib.Core.Path.{_≡_};
-ghost use mathlib.Core.List.{[], _∷_};
-ghost use lib.ListN.{length};
-ghost use Rattle.answers.specs.Entries.{accumulateNumber, accumulateLeaves, checkNumber};
-ghost use Rattle.answers.specs.Entries.{subaccumulateNumber, subaccumulateLeaves};
-ghost use Rattle.answers.specs.Tracings.{numberOf, recursionNumber, recursionAnswer, traceLeavesSub, traceLeavesStarts};
-ghost use Rattle.answers.specs.Tracings.{stackNumber, stackAnswer, traceLeavesWork};
-ghost use Rattle.answers.specs.Drawing.{drawNumber, drawnPart, drawLeaves};
-ghost use Rattle.spelling.specs.Reading.{readAnswer, readLeavesCodes, readLeavesOutlets};
-ghost use Rattle.spelling.specs.Writing.{writeAnswer, writeLeaves};
-ghost use Rattle.host.specs.Results.{isYes, resultsOf, shapeOf};
+ghost use Rattle.ground.specs.Grid.{gridOf};
+ghost use Rattle.answers.specs.Entries.{catchment, Accumulates, checkNumber, Subaccumulates};
+ghost use Rattle.answers.specs.Tracings.{callOf, lent};
+ghost use Rattle.answers.specs.Drawing.{drawingOf};
+ghost use Rattle.spelling.specs.Content.{content};
+ghost use Rattle.host.specs.Results.{nonZero, InNumbers, RecursionInC, StackInC, DrawingInC, ReadingInC};
+ghost use Rattle.host.specs.Results.{WritingInC};
 
 #[no_mangle]
 pub extern "C" fn jb_accumulate(
@@ -21,9 +18,8 @@ pub extern "C" fn jb_accumulate(
     codes: &[u8],
     accumulation: &mut [u32],
 ) -> u32
-    ensures answers { λ r. ⌜ r ≡ accumulateNumber rows cols (now (codes .entry)) (now (accumulation .entry)) ⌝ }
-    ensures leaves { λ _. ⌜ now (accumulation .exit)
-        ≡ accumulateLeaves rows cols (now (codes .entry)) (now (accumulation .entry)) ⌝ }
+    ensures { λ r. ⌜ Accumulates (gridOf rows cols (now (codes .entry))) (now (accumulation .entry)) r
+        (now (accumulation .exit)) ⌝ }
 {
     accumulation::accumulate(rows, cols, codes, accumulation)
 }
@@ -35,7 +31,7 @@ pub extern "C" fn jb_check_accumulation(
     codes: &[u8],
     accumulation: &[u32],
 ) -> u32
-    ensures { λ r. ⌜ r ≡ checkNumber rows cols (now (codes .entry)) (now (accumulation .entry)) ⌝ }
+    ensures { λ r. ⌜ r ≡ checkNumber (gridOf rows cols (now (codes .entry))) (now (accumulation .entry)) ⌝ }
 {
     accumulation::check_accumulation(rows, cols, codes, accumulation)
 }
@@ -49,20 +45,16 @@ pub extern "C" fn jb_subaccumulate(
     outlets: &[u32],
     subaccumulation: &mut [u32],
 ) -> u32
-    ensures answers { λ r. ⌜ r
-        ≡ subaccumulateNumber rows cols (now (codes .entry)) (now (accumulation .entry)) (now (outlets .entry))
-        (now (subaccumulation .entry)) ⌝ }
-    ensures leaves { λ _. ⌜ now (subaccumulation .exit)
-        ≡ subaccumulateLeaves rows cols (now (codes .entry)) (now (accumulation .entry)) (now (outlets .entry))
-        (now (subaccumulation .entry)) ⌝ }
+    ensures { λ r. ⌜ Subaccumulates
+        (catchment rows cols (now (codes .entry)) (now (accumulation .entry)) (now (outlets .entry)))
+        (now (subaccumulation .entry)) r (now (subaccumulation .exit)) ⌝ }
 {
     accumulation::subaccumulate(rows, cols, codes, accumulation, outlets, subaccumulation)
 }
 
-// Writes straight, diagonal, paths, visited and dropped, and hands back the number.
-fn tell(t: Traced, results: &mut [u32; 5]) -> u32
-    ensures answers { λ r. ⌜ r ≡ numberOf (t .answer) ⌝ }
-    ensures tells { λ _. ⌜ now (results .exit) ≡ resultsOf t ⌝ }
+// Stores straight, diagonal, paths, visited and dropped, and hands back the number.
+fn in_numbers(t: Traced, results: &mut [u32; 5]) -> u32
+    ensures { λ r. ⌜ InNumbers t r (now (results .exit)) ⌝ }
 {
     let visited = t.visited;
     let dropped = t.dropped;
@@ -101,28 +93,10 @@ pub extern "C" fn jb_trace_by_stack(
     work: &mut [u32],
     results: &mut [u32; 5],
 ) -> u32
-    ensures answers { λ r. ⌜ r
-        ≡ numberOf (stackAnswer (isYes dropping) rows cols (now (codes .entry)) (now (accumulation .entry)) (now (outlets .entry)) place
-        (now (subaccumulation .entry)) (now (starts .entry)) (now (work .entry)) .answer) ⌝ }
-    ensures tells { λ _. ⌜ now (results .exit)
-        ≡ resultsOf (stackAnswer (isYes dropping) rows cols (now (codes .entry)) (now (accumulation .entry)) (now (outlets .entry)) place
-        (now (subaccumulation .entry)) (now (starts .entry)) (now (work .entry))) ⌝ }
-    ensures fills { λ _. ⌜ now (subaccumulation .exit)
-        ≡ traceLeavesSub (isYes dropping) rows cols (now (codes .entry)) (now (accumulation .entry)) (now (outlets .entry)) place
-        (now (subaccumulation .entry)) (now (starts .entry))
-        (stackNumber (isYes dropping) rows cols (now (codes .entry)) (now (accumulation .entry)) (now (outlets .entry)) place
-        (now (subaccumulation .entry)) (now (starts .entry)) (now (work .entry))) ⌝ }
-    ensures lists { λ _. ⌜ now (starts .exit)
-        ≡ traceLeavesStarts (isYes dropping) rows cols (now (codes .entry)) (now (accumulation .entry)) (now (outlets .entry)) place
-        (now (subaccumulation .entry)) (now (starts .entry))
-        (stackNumber (isYes dropping) rows cols (now (codes .entry)) (now (accumulation .entry)) (now (outlets .entry)) place
-        (now (subaccumulation .entry)) (now (starts .entry)) (now (work .entry))) ⌝ }
-    ensures clears { λ _. ⌜ now (work .exit)
-        ≡ traceLeavesWork (isYes dropping) rows cols (now (codes .entry)) (now (accumulation .entry)) (now (outlets .entry)) place
-        (now (subaccumulation .entry)) (now (starts .entry))
-        (stackNumber (isYes dropping) rows cols (now (codes .entry)) (now (accumulation .entry)) (now (outlets .entry)) place
-        (now (subaccumulation .entry)) (now (starts .entry)) (now (work .entry)))
-        (now (work .entry)) ⌝ }
+    ensures { λ r. ⌜ StackInC
+        (callOf rows cols (now (codes .entry)) (now (accumulation .entry)) (now (outlets .entry)) place
+        (nonZero dropping)) (lent (now (subaccumulation .entry)) (now (starts .entry))) (now (work .entry))
+        r (now (results .exit)) (lent (now (subaccumulation .exit)) (now (starts .exit))) (now (work .exit)) ⌝ }
 {
     let drops = dropping != 0;
     let t = tracing::trace_by_stack(
@@ -137,7 +111,7 @@ pub extern "C" fn jb_trace_by_stack(
         starts,
         work,
     );
-    tell(t, results)
+    in_numbers(t, results)
 }
 
 #[no_mangle]
@@ -153,22 +127,10 @@ pub extern "C" fn jb_trace_by_recursion(
     starts: &mut [u32],
     results: &mut [u32; 5],
 ) -> u32
-    ensures answers { λ r. ⌜ r
-        ≡ numberOf (recursionAnswer (isYes dropping) rows cols (now (codes .entry)) (now (accumulation .entry)) (now (outlets .entry)) place
-        (now (subaccumulation .entry)) (now (starts .entry)) .answer) ⌝ }
-    ensures tells { λ _. ⌜ now (results .exit)
-        ≡ resultsOf (recursionAnswer (isYes dropping) rows cols (now (codes .entry)) (now (accumulation .entry)) (now (outlets .entry)) place
-        (now (subaccumulation .entry)) (now (starts .entry))) ⌝ }
-    ensures fills { λ _. ⌜ now (subaccumulation .exit)
-        ≡ traceLeavesSub (isYes dropping) rows cols (now (codes .entry)) (now (accumulation .entry)) (now (outlets .entry)) place
-        (now (subaccumulation .entry)) (now (starts .entry))
-        (recursionNumber (isYes dropping) rows cols (now (codes .entry)) (now (accumulation .entry)) (now (outlets .entry)) place
-        (now (subaccumulation .entry)) (now (starts .entry))) ⌝ }
-    ensures lists { λ _. ⌜ now (starts .exit)
-        ≡ traceLeavesStarts (isYes dropping) rows cols (now (codes .entry)) (now (accumulation .entry)) (now (outlets .entry)) place
-        (now (subaccumulation .entry)) (now (starts .entry))
-        (recursionNumber (isYes dropping) rows cols (now (codes .entry)) (now (accumulation .entry)) (now (outlets .entry)) place
-        (now (subaccumulation .entry)) (now (starts .entry))) ⌝ }
+    ensures { λ r. ⌜ RecursionInC
+        (callOf rows cols (now (codes .entry)) (now (accumulation .entry)) (now (outlets .entry)) place
+        (nonZero dropping)) (lent (now (subaccumulation .entry)) (now (starts .entry)))
+        r (now (results .exit)) (lent (now (subaccumulation .exit)) (now (starts .exit))) ⌝ }
 {
     let with_dropping = dropping != 0;
     let t = tracing::trace_by_recursion(
@@ -182,7 +144,7 @@ pub extern "C" fn jb_trace_by_recursion(
         subaccumulation,
         starts,
     );
-    tell(t, results)
+    in_numbers(t, results)
 }
 
 #[no_mangle]
@@ -194,29 +156,14 @@ pub extern "C" fn jb_draw(
     outlets: &[u32],
     place: usize,
     start: u32,
-    places: &mut [u32],
+    path: &mut [u32],
     drawn: &mut [u32; 1],
 ) -> u32
-    ensures answers { λ r. ⌜ r
-        ≡ drawNumber rows cols (now (codes .entry)) (now (accumulation .entry)) (now (outlets .entry)) place start
-        (now (places .entry)) ⌝ }
-    ensures counts { λ _. ⌜ now (drawn .exit)
-        ≡ length (drawnPart rows cols (now (codes .entry)) (now (accumulation .entry)) (now (outlets .entry)) place start
-        (now (places .entry))) ∷ [] ⌝ }
-    ensures leaves { λ _. ⌜ now (places .exit)
-        ≡ drawLeaves rows cols (now (codes .entry)) (now (accumulation .entry)) (now (outlets .entry)) place start
-        (now (places .entry)) ⌝ }
+    ensures { λ r. ⌜ DrawingInC
+        (drawingOf rows cols (now (codes .entry)) (now (accumulation .entry)) (now (outlets .entry)) place start)
+        (now (path .entry)) r (now (drawn .exit)) (now (path .exit)) ⌝ }
 {
-    let d = drawing::draw_into(
-        rows,
-        cols,
-        codes,
-        accumulation,
-        outlets,
-        place,
-        start,
-        places,
-    );
+    let d = drawing::draw_into(rows, cols, codes, accumulation, outlets, place, start, path);
     let count = d.count;
     *drawn = [count as u32];
     d.number
@@ -229,16 +176,10 @@ pub extern "C" fn jb_read_sheet(
     outlets: &mut [u32],
     shape: &mut [u32; 3],
 ) -> u32
-    ensures answers { λ r. ⌜ r
-        ≡ readAnswer (now (file .entry)) (length (now (codes .entry))) (length (now (outlets .entry))) .number ⌝ }
-    ensures tells { λ _. ⌜ now (shape .exit)
-        ≡ shapeOf (readAnswer (now (file .entry)) (length (now (codes .entry))) (length (now (outlets .entry)))) ⌝ }
-    ensures codes { λ _. ⌜ now (codes .exit)
-        ≡ readLeavesCodes (now (file .entry)) (now (codes .entry)) (now (outlets .entry)) ⌝ }
-    ensures outlets { λ _. ⌜ now (outlets .exit)
-        ≡ readLeavesOutlets (now (file .entry)) (now (codes .entry)) (now (outlets .entry)) ⌝ }
+    ensures { λ r. ⌜ ReadingInC (now (file .entry)) (now (codes .entry)) (now (outlets .entry)) r (now (shape .exit))
+        (now (codes .exit)) (now (outlets .exit)) ⌝ }
 {
-    let sheet = sheets::read(file, codes, outlets);
+    let sheet = reading::read(file, codes, outlets);
     *shape = [sheet.rows, sheet.cols, sheet.outlets];
     sheet.number
 }
@@ -252,14 +193,10 @@ pub extern "C" fn jb_write_sheet(
     file: &mut [u8],
     length: &mut [u32; 1],
 ) -> u32
-    ensures answers { λ r. ⌜ r
-        ≡ writeAnswer rows cols (now (codes .entry)) (now (outlets .entry)) (now (file .entry)) .number ⌝ }
-    ensures tells { λ _. ⌜ now (length .exit)
-        ≡ writeAnswer rows cols (now (codes .entry)) (now (outlets .entry)) (now (file .entry)) .length ∷ [] ⌝ }
-    ensures leaves { λ _. ⌜ now (file .exit)
-        ≡ writeLeaves rows cols (now (codes .entry)) (now (outlets .entry)) (now (file .entry)) ⌝ }
+    ensures { λ r. ⌜ WritingInC (content rows cols (now (codes .entry)) (now (outlets .entry))) (now (file .entry))
+        r (now (length .exit)) (now (file .exit)) ⌝ }
 {
-    let written = sheets::write(rows, cols, codes, outlets, file);
+    let written = writing::write(rows, cols, codes, outlets, file);
     *length = [written.length];
     written.number
 }

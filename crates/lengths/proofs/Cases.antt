@@ -1,15 +1,15 @@
 -- The rule case by case: what each pair of signs gives.
 -- Assumes nothing.
-use mathlib.Core.Path.{_≡_, refl, sym, ap, ap₂, _∙_}
-use mathlib.Core.Bool.{Bool, true, false, cond}
-use Prim.Native.Nat.{ℕ, _+_, _-_, _*_, _≤_, _<_}
+use mathlib.Core.Path.{_≡_, refl, ap, _∙_}
+use mathlib.Core.Bool.{Bool, cond}
+use Prim.Native.Nat.{ℕ, _+_, _*_, _<_}
 use native.Mathlib.Omega.{arith}
 use lib.Dec.{ltb}
 use borrow.Author.Tests.{lt-ltb, le-ltb}
 use Rattle.lengths.specs.declared.Length.{Length}
 use Rattle.lengths.specs.declared.Order.{Order}
 use Rattle.lengths.specs.declared.Order.the-variants.{Shorter, Same, Longer}
-use Rattle.lengths.specs.Rule.{signOf, sizeOf, larger, ruled, compared}
+use Rattle.lengths.specs.Rule.{signOf, sizeOf, ruled, compared}
 
 pub sign-less : (x y : ℕ) → x < y → signOf x y ≡ Shorter
 unfolding signOf
@@ -31,7 +31,8 @@ ruled-same p Longer q = refl
 
 module _ (l m : Length) where
   -- the rule at known signs and sizes
-  compared-is : (s t : Order) (p q : ℕ) → signOf (l .straight) (m .straight) ≡ s → sizeOf (l .straight) (m .straight) ≡ p
+  compared-is : (s t : Order) (p q : ℕ) → signOf (l .straight) (m .straight) ≡ s
+      → sizeOf (l .straight) (m .straight) ≡ p
       → signOf (l .diagonal) (m .diagonal) ≡ t → sizeOf (l .diagonal) (m .diagonal) ≡ q → compared l m ≡ ruled s p t q
   unfolding compared
   compared-is s t p q e f g h = cc

@@ -1,6 +1,5 @@
--- What the search needs of lengths, as one record of laws, and that square cells fulfil it. The laws hold of all lengths
--- that stand for numbers p + q√k.
--- Assumes nothing.
+-- What the search needs of lengths, as one record of laws, and that square cells fulfil it. The laws hold of all
+-- lengths that stand for numbers p + q√k. Assumes nothing.
 use mathlib.Core.Path.{_≡_, refl, sym, ap, ap₂, _∙_}
 use mathlib.Core.Bool.{Bool, true, false, cond}
 use mathlib.Core.List.{List, [], _∷_}
@@ -11,14 +10,15 @@ use lib.ListN.{length}
 use Rattle.lengths.specs.declared.Step.{Step}
 use Rattle.lengths.specs.declared.Step.the-variants.{Straight, Diagonal}
 use Rattle.lengths.specs.declared.Length.{Length}
-use Rattle.lengths.specs.declared.Order.{Order}
 use Rattle.lengths.specs.declared.Order.the-variants.{Shorter, Same, Longer}
 use Rattle.lengths.specs.Rule.{counts, plusStep, compared, isShorter}
-use Rattle.lengths.specs.Lengths.{Lengths, squareCells, steppedBy}
-use Rattle.lengths.proofs.Surds.{surdLess, squareSum, surd-asym, surd-trans, surd-shift, surd-shift-left, surd-more}
+use Rattle.lengths.specs.Lengths.{Lengths, squareCells, steppedBy, farthest}
+use Rattle.lengths.proofs.Surds.{surdLess, squareSum, surd-asym, surd-trans, surd-shift, surd-shift-left}
+use Rattle.lengths.proofs.Surds.{surd-more}
 use Rattle.lengths.proofs.Ordered.{shorter-is, shorter-refl, same-counts, compared-is}
 
--- `shorter` is a strict order, in which ties are allowed; steps make longer and keep the order; `top` is the longest step
+-- `shorter` is a strict order, in which ties are allowed; steps make longer and keep the order; `top` is the longest
+-- step
 pub record LengthLaws {S : Type 0} (𝓛 : Lengths S) : Type 0 where
   pub asym : (x y : 𝓛 .Len) → 𝓛 .shorter x y ≡ true → 𝓛 .shorter y x ≡ false
   pub trans : (x y z : 𝓛 .Len) → 𝓛 .shorter y x ≡ false → 𝓛 .shorter z y ≡ false → 𝓛 .shorter z x ≡ false
@@ -149,3 +149,18 @@ pub never-exceed : (l : Length) (ss : List Step) → isShorter (counts (l .strai
     (steps squareCells square-laws l ss) ≡ false
 never-exceed l ss = ap (λ (m : Length). isShorter m (steps squareCells square-laws l ss)) (sym (top-counts l ss))
     ∙ steps-at-most squareCells square-laws l l ss (shorter-refl l)
+
+-- ---- the farthest that n steps reach, by counts
+
+pub farthest-is : (d : Length) (n : ℕ) → counts (d .straight) (d .diagonal + n) ≡ farthest squareCells d n
+farthest-is d zero = let e : d .diagonal + 0 ≡ d .diagonal = omega arith in rw e
+farthest-is d (suc n) =
+    let e : d .diagonal + suc n ≡ d .diagonal + 1 + n = omega arith in
+    rw e (farthest-is (counts (d .straight) (d .diagonal + 1)) n)
+
+-- the same by steps of another kind
+pub farthest-by : {S T : Type 0} (f : T → S) (top : T) (𝓛 : Lengths S) → f top ≡ 𝓛 .top → (d : 𝓛 .Len) (n : ℕ)
+    → farthest (steppedBy f top 𝓛) d n ≡ farthest 𝓛 d n
+farthest-by f top 𝓛 e d zero = refl
+farthest-by f top 𝓛 e d (suc n) = farthest-by f top 𝓛 e (𝓛 ._▹_ d (f top)) n
+    ∙ ap (λ s. farthest 𝓛 (𝓛 ._▹_ d s) n) e

@@ -2,19 +2,16 @@
 -- Assumes nothing.
 use mathlib.Core.Path.{_≡_, refl, sym, ap, ap₂, _∙_}
 use mathlib.Core.Bool.{Bool, true, false, cond, not, true≢false}
-use mathlib.Core.Logic.{_⊎_, inl, inr, _↔_}
-use Prim.Native.Nat.{ℕ, _+_, _-_, _*_, _≤_, _<_}
+use Prim.Native.Nat.{ℕ, _+_, _-_, _*_, _<_}
 use native.Mathlib.Nat.{mul-le-mul}
 use native.Mathlib.Omega.{arith}
 use native.Mathlib.Decide.{decLt}
 use lib.Dec.{ltb}
-use borrow.Author.Tests.{lt-ltb, le-ltb, ltb-true, ltb-false}
-use Rattle.lengths.specs.declared.Step.{Step}
-use Rattle.lengths.specs.declared.Step.the-variants.{Straight, Diagonal}
+use borrow.Author.Tests.{lt-ltb, le-ltb}
 use Rattle.lengths.specs.declared.Length.{Length}
 use Rattle.lengths.specs.declared.Order.{Order}
 use Rattle.lengths.specs.declared.Order.the-variants.{Shorter, Same, Longer}
-use Rattle.lengths.specs.Rule.{plusStep, compared, saysShorter, isShorter}
+use Rattle.lengths.specs.Rule.{compared, saysShorter, isShorter}
 use Rattle.lengths.proofs.Cases.{
   sign-less,
   sign-more,
@@ -167,7 +164,8 @@ compared-back l m = compared-is m l ∙ turn (less l m) refl (more l m) refl ∙
     turn : (b : Bool) → less l m ≡ b → (c : Bool) → more l m ≡ c
         → cond (more l m) Shorter (cond (less l m) Longer Same)
         ≡ opposite (cond (less l m) Shorter (cond (more l m) Longer Same))
-    turn true t true u = absurd (true≢false (sym u ∙ surd-asym 2 (l .straight) (l .diagonal) (m .straight) (m .diagonal) t))
+    turn true t true u = absurd (true≢false
+        (sym u ∙ surd-asym 2 (l .straight) (l .diagonal) (m .straight) (m .diagonal) t))
     turn true t false u = rw (t, u)
     turn false t true u = rw (t, u)
     turn false t false u = rw (t, u)

@@ -3,7 +3,6 @@
 -- Assumes nothing.
 use mathlib.Core.Path.{_≡_, refl, sym, ap}
 use mathlib.Core.Bool.{Bool, true, false, not}
-use mathlib.Core.Logic.{_⊎_, inl, inr}
 use Prim.Native.Nat.{ℕ, zero, suc, _+_, _*_, _-_, _/_, _%_, _≤_, _<_}
 use native.Mathlib.Nat.{mul-le-mul, mul-le-mul-left, sub-eq-zero-of-le, sub-le, add-comm, zero-sub, sub-zero}
 use native.Mathlib.Omega.{arith}
@@ -32,9 +31,6 @@ data Way (k a b c d : ℕ) : Type 0 where
   both : a ≤ c → b ≤ d → Way k a b c d
   flat : (p q : ℕ) → c ≡ a + p → b ≡ d + q → k * (q * q) ≤ p * p → Way k a b c d
   slant : (p q : ℕ) → a ≡ c + p → d ≡ b + q → p * p ≤ k * (q * q) → Way k a b c d
-
-sq-le : {m n : ℕ} → m ≤ n → m * m ≤ n * n
-sq-le h = mul-le-mul h h
 
 -- two pairs of sides whose squares are so ordered have their products so ordered
 cross-flat : (k p q p′ q′ : ℕ) → k * (q * q) ≤ p * p → k * (q′ * q′) ≤ p′ * p′ → k * (q * q′) ≤ p * p′
@@ -199,7 +195,8 @@ unfolding surdLess
 surd-asym k a b c d t = le-ltb (excess k c d a b) (excess k a b c d)
     (omega (arith, ltb-true (excess k a b c d) (excess k c d a b) t))
 
-pub surd-trans : (k a b c d e f : ℕ) → surdLess k c d a b ≡ false → surdLess k e f c d ≡ false → surdLess k e f a b ≡ false
+pub surd-trans : (k a b c d e f : ℕ) → surdLess k c d a b ≡ false → surdLess k e f c d ≡ false
+    → surdLess k e f a b ≡ false
 surd-trans k a b c d e f h i =
     at-most-surd k e f a b (SurdAtMost-trans k a b c d e f (surd-false k c d a b h) (surd-false k e f c d i))
 

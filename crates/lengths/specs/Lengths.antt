@@ -2,6 +2,7 @@
 -- defined for any such lengths; those of square cells are one value.
 -- Assumes nothing.
 use mathlib.Core.Bool.{Bool}
+use Prim.Native.Nat.{ℕ, zero, suc}
 use Rattle.lengths.specs.declared.Step.{Step}
 use Rattle.lengths.specs.declared.Step.the-variants.{Diagonal}
 use Rattle.lengths.specs.declared.Length.{Length}
@@ -16,10 +17,22 @@ pub record Lengths (S : Type 0) : Type 1 where
   pub top : S
   pub shorter : Len → Len → Bool
 
+-- d and n of the longest steps: d + n√2
+abbrev pub farthest : {S : Type 0} (𝓛 : Lengths S) → 𝓛 .Len → ℕ → 𝓛 .Len
+farthest 𝓛 d zero = d
+farthest 𝓛 d (suc n) = farthest 𝓛 (𝓛 ._▹_ d (𝓛 .top)) n
+
 -- square cells: a straight and b diagonal steps
 abbrev pub squareCells : Lengths Step
 squareCells = record { Len = Length; start = counts 0 0; _▹_ = plusStep; top = Diagonal; shorter = isShorter }
 
 -- the same lengths by steps of another kind, each of which is one of the first
 abbrev pub steppedBy : {S T : Type 0} → (T → S) → T → Lengths S → Lengths T
-steppedBy f top 𝓛 = record { Len = 𝓛 .Len; start = 𝓛 .start; _▹_ = λ l t. 𝓛 ._▹_ l (f t); top = top; shorter = 𝓛 .shorter }
+steppedBy f top 𝓛 = record {
+  Len = 𝓛 .Len;
+  start = 𝓛 .start;
+  _▹_ = λ l t. 𝓛 ._▹_ l
+      (f t);
+  top = top;
+  shorter = 𝓛 .shorter;
+}

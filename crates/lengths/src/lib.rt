@@ -1,8 +1,10 @@
 // Lengths of walks, a + b√2 cell sides, compared exactly by their counts of steps.
+use lists::wide;
 ghost use mathlib.Core.Path.{_≡_};
-ghost use Prim.Native.Nat.{_-_, _*_, _<_, _^_};
+ghost use Prim.Native.Nat.{_-_, _*_, _≤_, _<_, _^_};
 ghost use lib.Dec.{ltb};
-ghost use Rattle.lengths.specs.Rule.{compared, plusStep, signOf};
+ghost use Rattle.lengths.specs.Rule.{compared, counts, plusStep, signOf};
+ghost use Rattle.lengths.specs.Lengths.{squareCells, farthest};
 
 // One step of a walk.
 pub enum Step {
@@ -21,13 +23,6 @@ pub enum Order {
     Shorter,
     Same,
     Longer,
-}
-
-// A count as a number of 64 bits, and that it is one of 32.
-pub fn wide(x: u32) -> u64
-    ensures { λ r. ⌜ (r ≡ x) × (r < 2 ^ 32) ⌝ }
-{
-    x as u64
 }
 
 // The sign of x - y.
@@ -53,6 +48,27 @@ fn is_larger(p: u64, q: u64) -> bool
 }
 
 impl Length {
+    // No step yet.
+    pub fn none() -> Length
+        ensures { λ r. ⌜ r ≡ counts 0 0 ⌝ }
+    {
+        Length {
+            straight: 0,
+            diagonal: 0,
+        }
+    }
+
+    // The farthest that n steps more can reach: all of them diagonal.
+    pub fn farthest(self, n: u32) -> Length
+        requires { ⌜ (self .diagonal ≤ 2 ^ 24) × (n ≤ 2 ^ 24) ⌝ }
+        ensures { λ r. ⌜ r ≡ farthest squareCells self n ⌝ }
+    {
+        Length {
+            straight: self.straight,
+            diagonal: self.diagonal + n,
+        }
+    }
+
     // One step longer.
     pub fn plus(self, step: Step) -> Length
         requires { ⌜ (self .straight < 2 ^ 32 - 1) × (self .diagonal < 2 ^ 32 - 1) ⌝ }

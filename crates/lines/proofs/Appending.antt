@@ -1,47 +1,47 @@
 -- How a held text grows.
 -- Assumes nothing.
-use mathlib.Core.Path.{_≡_, refl, sym, ap, _∙_, subst}
+use mathlib.Core.Path.{_≡_, sym, ap, _∙_, subst}
 use mathlib.Core.List.{List, [], _∷_, _++_, append-assoc, append-nil}
-use Prim.Native.Nat.{ℕ, zero, suc, _+_, _≤_, _<_, min}
+use Prim.Native.Nat.{ℕ, suc, _+_, _≤_, _<_}
 use native.Mathlib.Omega.{arith}
 use lib.ListN.{length, getD, set, drop, length-append}
 use lib.Seq.{drop-cons, set-append-seam, take-nil}
-use Rattle.answers.specs.Entries.{overlaid}
-use Rattle.answers.proofs.Accepted.{overlaid-length, overlaid-front, overlaid-full}
+use Rattle.lists.specs.Slices.{overlaid}
+use Rattle.lists.proofs.Overlaid.{overlaid-length, overlaid-front, overlaid-full}
 use Rattle.lines.specs.Appending.{Holds, Appends}
 
 -- ---- one byte
 
+longer : (byte : ℕ) (text : List ℕ) → length (text ++ (byte ∷ [])) ≡ length text + 1
+longer byte text = length-append text (byte ∷ [])
+
+room : {text lent old : List ℕ} {at : ℕ} → Holds text lent at old → length old ≡ length lent
+room {text} {lent} held = ap (λ (l : List ℕ). length l) (held .laid) ∙ overlaid-length text lent
+
 module _ (byte at : ℕ) (old text lent : List ℕ) (held : Holds text lent at old) where
-  longer : length (text ++ (byte ∷ [])) ≡ length text + 1
-  longer = length-append text (byte ∷ [])
-
-  room : length old ≡ length lent
-  room = ap (λ (l : List ℕ). length l) (held .laid) ∙ overlaid-length text lent
-
   -- where there is room, the byte follows the text
   in-place : at < length old → Holds (text ++ (byte ∷ [])) lent (at + 1) (set old at byte)
   in-place h =
-      let fits : length text < length lent = omega (arith, held .counted, room) in
-      let at-end : at ≡ length text = omega (arith, held .counted, room) in
-      let after : length (text ++ (byte ∷ [])) ≡ suc (length text) = omega (arith, longer) in
+      let fits : length text < length lent = omega (arith, held .counted, room held) in
+      let at-end : at ≡ length text = omega (arith, held .counted, room held) in
+      let after : length (text ++ (byte ∷ [])) ≡ suc (length text) = omega (arith, longer byte text) in
       let cell = drop-cons lent (length text) 0 fits in
       record {
-        counted = omega (arith, longer, held .counted, room);
+        counted = omega (arith, longer byte text, held .counted, room held);
         laid = ap (λ (l : List ℕ). set l at byte) (held .laid ∙ overlaid-front text lent (omega arith)
             ∙ ap (λ (l : List ℕ). text ++ l) cell)
             ∙ ap (λ (i : ℕ). set (text ++ (getD lent (length text) 0 ∷ drop (suc (length text)) lent)) i byte) at-end
             ∙ set-append-seam text (getD lent (length text) 0) (drop (suc (length text)) lent) byte
             ∙ sym (append-assoc text (byte ∷ []) (drop (suc (length text)) lent))
-            ∙ sym (overlaid-front (text ++ (byte ∷ [])) lent (omega (arith, longer))
+            ∙ sym (overlaid-front (text ++ (byte ∷ [])) lent (omega (arith, longer byte text))
             ∙ ap (λ (i : ℕ). (text ++ (byte ∷ [])) ++ drop i lent) after);
       }
 
   -- where there is none, it is left out
   left-out : length old ≤ at → Holds (text ++ (byte ∷ [])) lent at old
   left-out h = record {
-    counted = omega (arith, longer, held .counted, room);
-    laid = held .laid ∙ sym (overlaid-full text (byte ∷ []) lent (omega (arith, held .counted, room)));
+    counted = omega (arith, longer byte text, held .counted, room held);
+    laid = held .laid ∙ sym (overlaid-full text (byte ∷ []) lent (omega (arith, held .counted, room held)));
   }
 
 pub put-in : (byte at : ℕ) (old : List ℕ) → at < length old → Appends (byte ∷ []) at old (at + 1) (set old at byte)

@@ -4,7 +4,7 @@ use mathlib.Core.Path.{_≡_}
 use mathlib.Core.List.{List, _++_}
 use Prim.Native.Nat.{ℕ, min}
 use lib.ListN.{length}
-use Rattle.answers.specs.Entries.{overlaid}
+use Rattle.lists.specs.Slices.{overlaid}
 
 -- a lent slice holds a text, or as much of it as there is room for, and so many bytes of it
 pub record Holds (text lent : List ℕ) (at : ℕ) (now : List ℕ) : Type 0 where

@@ -4,6 +4,7 @@ use mathlib.Core.Bool.{cond}
 use mathlib.Core.List.{List, [], _∷_, _++_}
 use Prim.Native.Nat.{ℕ, zero, suc, _+_, _/_, _%_}
 use lib.Dec.{ltb}
+use Rattle.lines.specs.declared.OutletLine.{OutletLine}
 
 -- ---- words, in ASCII
 
@@ -75,27 +76,29 @@ abbrev pub decimal : ℕ → List ℕ
 decimal n = digits 10 n
 
 -- a word and a number
-abbrev pub told : List ℕ → ℕ → List ℕ
-told word n = word ++ decimal n
+abbrev pub labelled : List ℕ → ℕ → List ℕ
+labelled word n = word ++ decimal n
 
 -- ---- lines
 
 -- "The first line has R, C and the outlet count"
 unfoldable pub catchmentLine : ℕ → ℕ → ℕ → List ℕ
 catchmentLine rows cols outlets =
-    told word·catchment rows ++ (told word·space cols ++ (told word·outlets outlets ++ word·newline))
+    labelled word·catchment rows ++ (labelled word·space cols ++ (labelled word·outlets outlets ++ word·newline))
 
 -- "its place counted from 1, row, column, subaccumulation, a, b and the three counts"
-unfoldable pub outletLine : ℕ → ℕ → ℕ → ℕ → ℕ → ℕ → ℕ → ℕ → ℕ → List ℕ
-outletLine place row col cells straight diagonal paths visited dropped =
-    told word·outlet place ++ (told word·at row ++ (told word·space col ++ (told word·cells cells
-    ++ (told word·straight straight ++ (told word·diagonal diagonal ++ (told word·paths paths
-    ++ (told word·visited visited ++ (told word·dropped dropped ++ word·newline))))))))
+unfoldable pub outletLine : OutletLine → List ℕ
+outletLine line =
+    labelled word·outlet (line .place) ++ (labelled word·at (line .row) ++ (labelled word·space (line .col)
+    ++ (labelled word·cells (line .cells)
+    ++ (labelled word·straight (line .straight) ++ (labelled word·diagonal (line .diagonal)
+    ++ (labelled word·paths (line .paths) ++ (labelled word·visited (line .visited)
+    ++ (labelled word·dropped (line .dropped) ++ word·newline))))))))
 
 -- "a line per start, row and column"
 unfoldable pub pathLine : ℕ → ℕ → List ℕ
-pathLine row col = told word·path row ++ (told word·space col ++ word·newline)
+pathLine row col = labelled word·path row ++ (labelled word·space col ++ word·newline)
 
 -- "A refusal prints only `refused` and its number"
 unfoldable pub refusedLine : ℕ → List ℕ
-refusedLine number = told word·refused number ++ word·newline
+refusedLine number = labelled word·refused number ++ word·newline

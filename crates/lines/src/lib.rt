@@ -1,6 +1,6 @@
 // The desk's lines, put as bytes into a lent slice from a place on. What finds no room is left out.
 ghost use mathlib.Core.List.{[], _∷_};
-ghost use Rattle.lines.specs.Line.{decimal, told, catchmentLine, outletLine, pathLine, refusedLine};
+ghost use Rattle.lines.specs.Line.{decimal, labelled, catchmentLine, outletLine, pathLine, refusedLine};
 ghost use Rattle.lines.specs.Appending.{Appends};
 
 // One byte; the place after it is handed back.
@@ -40,8 +40,8 @@ fn put_number(text: &mut [u8], at: usize, n: u32) -> usize
 }
 
 // A word and a number.
-fn tell(text: &mut [u8], at: usize, word: &[u8], n: u32) -> usize
-    ensures { λ r. ⌜ Appends (told (now (word .entry)) n) at (now (text .entry)) r (now (text .exit)) ⌝ }
+fn put_labelled(text: &mut [u8], at: usize, word: &[u8], n: u32) -> usize
+    ensures { λ r. ⌜ Appends (labelled (now (word .entry)) n) at (now (text .entry)) r (now (text .exit)) ⌝ }
 {
     let to = put_word(text, at, word);
     put_number(text, to, n)
@@ -51,7 +51,7 @@ fn tell(text: &mut [u8], at: usize, word: &[u8], n: u32) -> usize
 pub fn put_refused(text: &mut [u8], at: usize, number: u32) -> usize
     ensures { λ r. ⌜ Appends (refusedLine number) at (now (text .entry)) r (now (text .exit)) ⌝ }
 {
-    let to = tell(text, at, b"refused ", number);
+    let to = put_labelled(text, at, b"refused ", number);
     put_word(text, to, b"\n")
 }
 
@@ -59,9 +59,9 @@ pub fn put_refused(text: &mut [u8], at: usize, number: u32) -> usize
 pub fn put_catchment(text: &mut [u8], at: usize, rows: u32, cols: u32, outlets: u32) -> usize
     ensures { λ r. ⌜ Appends (catchmentLine rows cols outlets) at (now (text .entry)) r (now (text .exit)) ⌝ }
 {
-    let a = tell(text, at, b"catchment ", rows);
-    let b = tell(text, a, b" ", cols);
-    let c = tell(text, b, b" outlets ", outlets);
+    let a = put_labelled(text, at, b"catchment ", rows);
+    let b = put_labelled(text, a, b" ", cols);
+    let c = put_labelled(text, b, b" outlets ", outlets);
     put_word(text, c, b"\n")
 }
 
@@ -69,35 +69,37 @@ pub fn put_catchment(text: &mut [u8], at: usize, rows: u32, cols: u32, outlets: 
 pub fn put_path(text: &mut [u8], at: usize, row: u32, col: u32) -> usize
     ensures { λ r. ⌜ Appends (pathLine row col) at (now (text .entry)) r (now (text .exit)) ⌝ }
 {
-    let a = tell(text, at, b"path ", row);
-    let b = tell(text, a, b" ", col);
+    let a = put_labelled(text, at, b"path ", row);
+    let b = put_labelled(text, a, b" ", col);
     put_word(text, b, b"\n")
 }
 
+// What the line of an outlet says: its place counted from 1, its row and column, the cells of its subwatershed, the
+// steps of its longest paths, how many these are, and how many cells the search visited and dropped.
+pub struct OutletLine {
+    pub place: u32,
+    pub row: u32,
+    pub col: u32,
+    pub cells: u32,
+    pub straight: u32,
+    pub diagonal: u32,
+    pub paths: u32,
+    pub visited: u32,
+    pub dropped: u32,
+}
+
 // The line of an outlet.
-pub fn put_outlet(
-    text: &mut [u8],
-    at: usize,
-    place: u32,
-    row: u32,
-    col: u32,
-    cells: u32,
-    straight: u32,
-    diagonal: u32,
-    paths: u32,
-    visited: u32,
-    dropped: u32,
-) -> usize
-    ensures { λ r. ⌜ Appends (outletLine place row col cells straight diagonal paths visited dropped) at (now (text .entry)) r (now (text .exit)) ⌝ }
+pub fn put_outlet(text: &mut [u8], at: usize, line: OutletLine) -> usize
+    ensures { λ r. ⌜ Appends (outletLine line) at (now (text .entry)) r (now (text .exit)) ⌝ }
 {
-    let a = tell(text, at, b"outlet ", place);
-    let b = tell(text, a, b" at ", row);
-    let c = tell(text, b, b" ", col);
-    let d = tell(text, c, b" cells ", cells);
-    let e = tell(text, d, b" straight ", straight);
-    let f = tell(text, e, b" diagonal ", diagonal);
-    let g = tell(text, f, b" paths ", paths);
-    let h = tell(text, g, b" visited ", visited);
-    let i = tell(text, h, b" dropped ", dropped);
+    let a = put_labelled(text, at, b"outlet ", line.place);
+    let b = put_labelled(text, a, b" at ", line.row);
+    let c = put_labelled(text, b, b" ", line.col);
+    let d = put_labelled(text, c, b" cells ", line.cells);
+    let e = put_labelled(text, d, b" straight ", line.straight);
+    let f = put_labelled(text, e, b" diagonal ", line.diagonal);
+    let g = put_labelled(text, f, b" paths ", line.paths);
+    let h = put_labelled(text, g, b" visited ", line.visited);
+    let i = put_labelled(text, h, b" dropped ", line.dropped);
     put_word(text, i, b"\n")
 }

@@ -1,10 +1,10 @@
 -- Laws of the starts that stand before an end, and of a length that is met.
 -- Assumes nothing.
-use mathlib.Core.Path.{_≡_, refl, sym, ap, ap₂, _∙_, subst}
-use mathlib.Core.Bool.{Bool, true, false, _&&_}
-use mathlib.Core.Logic.{_⊎_, inl, inr}
+use mathlib.Core.Path.{_≡_, refl, sym, ap, _∙_}
+use mathlib.Core.Bool.{Bool, true, false, _&&_, not}
+use mathlib.Core.Logic.{inl, inr}
 use mathlib.Core.List.{List, [], _∷_, _++_, map, map-append}
-use Prim.Native.Nat.{ℕ, zero, suc, _+_, _-_, _≤_, _<_, _^_}
+use Prim.Native.Nat.{ℕ, zero, suc, _+_, _-_, _≤_, _<_}
 use native.Mathlib.Numerals.{add-one}
 use native.Mathlib.Omega.{arith}
 use lib.ListN.{length, getD, set, length-append}
@@ -17,11 +17,11 @@ use Rattle.lengths.specs.declared.Order.the-variants.{Shorter, Same, Longer}
 use Rattle.lengths.specs.Rule.{counts, compared, saysShorter, isShorter}
 use Rattle.lengths.proofs.Ordered.{opposite, compared-back, same-counts}
 use Rattle.ground.specs.Compass.{Dir, squares}
-use Rattle.ground.specs.Walk.{At}
-use Rattle.search.specs.Search.{State, meet, meetIf, farthest, firstRule, drops}
+use Rattle.search.specs.Search.{meet, firstRule, drops, belowGreatest}
+use Rattle.lengths.specs.Lengths.{farthest}
 use Rattle.search.proofs.Meeting.{meet-shorter, meet-longer, meet-tie}
 use Rattle.progress.specs.declared.Progress.{Progress}
-use Rattle.progress.specs.Starts.{kept, startAt, startsOf, stateOf, OnlyBefore, Met, Visited}
+use Rattle.progress.specs.Starts.{kept, startAt, startsOf, Met, Visited, isBelow}
 
 -- ---- the starts
 
@@ -49,7 +49,12 @@ kept-add l end k c h f =
 pub kept-length : (l : List ℕ) (end k : ℕ) → length (kept l end k) ≡ k
 unfolding kept
 kept-length l end zero = refl
-kept-length l end (suc k) = omega (arith, length-append (kept l end k) (getD l (end - suc k) 0 ∷ []), kept-length l end k)
+kept-length l end (suc k) = omega (
+  arith,
+  length-append (kept l end k)
+      (getD l (end - suc k) 0 ∷ []),
+  kept-length l end k,
+)
 
 -- ---- a length compared
 
@@ -62,7 +67,8 @@ back-says l m o e = shorter-says m l (opposite o) (compared-back l m ∙ ap oppo
 
 -- ---- a length met among starts of one length
 
-map-snoc : (l : Length) (cs : List ℕ) (c : ℕ) → map (startAt l) (cs ++ (c ∷ [])) ≡ map (startAt l) cs ++ (startAt l c ∷ [])
+map-snoc : (l : Length) (cs : List ℕ) (c : ℕ)
+    → map (startAt l) (cs ++ (c ∷ [])) ≡ map (startAt l) cs ++ (startAt l c ∷ [])
 map-snoc l cs c = map-append (startAt l) cs (c ∷ [])
 
 module _ (g : Length) (cs : List ℕ) (some-start : 0 < length cs) (l : Length) (c : ℕ) where
@@ -81,7 +87,8 @@ module _ (g : Length) (cs : List ℕ) (some-start : 0 < length cs) (l : Length) 
       go (d ∷ ds) h = meet-longer squares (startAt g d) (map (startAt g) ds) (startAt l c) (shorter-says l g Longer e)
           (back-says l g Longer e)
 
-  pub met-same : compared l g ≡ Same → meet squares (map (startAt g) cs) (startAt l c) ≡ map (startAt g) (cs ++ (c ∷ []))
+  pub met-same : compared l g ≡ Same → meet squares (map (startAt g) cs) (startAt l c)
+      ≡ map (startAt g) (cs ++ (c ∷ []))
   met-same e = go cs some-start ∙ ap (λ (k : Length). map (startAt g) cs ++ (startAt k c ∷ [])) (same-counts l g e)
       ∙ sym (map-snoc g cs c)
     where
@@ -114,7 +121,8 @@ module _ (old : List ℕ) (end cell : ℕ) (len : Length) (p : Progress) (room :
   })
 
   -- it is forgotten
-  pub forgotten : meet squares (startsOf p old end) (startAt len cell) ≡ startsOf p old end → Met old old end cell len p p
+  pub forgotten : meet squares (startsOf p old end) (startAt len cell) ≡ startsOf p old end
+      → Met old old end cell len p p
   forgotten m = record {
     starts = sym m;
     same-visited = refl;
@@ -152,24 +160,23 @@ module _ (old : List ℕ) (end cell : ℕ) (len : Length) (p : Progress) (room :
   pub some-kept : (p .paths ≡ 0 → ⊥) → 0 < length (kept old end (p .paths))
   some-kept n = omega (arith, kept-length old end (p .paths), n)
 
--- a cell is visited: one more is counted, and a headwater has met its length
+-- a cell is visited: one more is counted, and its length is met or not
 abbrev pub counted : Progress → Progress
 counted p = record { greatest = p .greatest; paths = p .paths; visited = p .visited + 1; dropped = p .dropped }
 
-pub visited-head : (old new : List ℕ) (end cell n : ℕ) (len : Length) (p r : Progress) → n ≡ 1
-    → Met old new end cell len (counted p) r → Visited old new end cell n len p r
-visited-head old new end cell n len p r e m = record {
-  state = rw (eq-eqb n 1 e)
-      (λ t. record { starts = m .starts t; visited = m .same-visited t; dropped = m .same-dropped t });
+pub visited-met : (old new : List ℕ) (end cell : ℕ) (met : Bool) (len : Length) (p r : Progress) → met ≡ true
+    → Met old new end cell len (counted p) r → Visited old new end cell met len p r
+visited-met old new end cell met len p r e m = record {
+  state = rw e (λ t. record { starts = m .starts t; visited = m .same-visited t; dropped = m .same-dropped t });
   few = m .few;
   one-of = m .one-of;
   only = m .only;
 }
 
-pub visited-inner : (old : List ℕ) (end cell n : ℕ) (len : Length) (p : Progress) → (n ≡ 1 → ⊥)
-    → Visited old old end cell n len p (counted p)
-visited-inner old end cell n len p e = record {
-  state = rw (ne-eqb n 1 e);
+pub visited-past : (old : List ℕ) (end cell : ℕ) (met : Bool) (len : Length) (p : Progress) → met ≡ false
+    → Visited old old end cell met len p (counted p)
+visited-past old end cell met len p e = record {
+  state = rw e;
   few = omega arith;
   one-of = inl refl;
   only = record { below = λ i q. refl; beyond = λ i q. refl };
@@ -177,36 +184,25 @@ visited-inner old end cell n len p e = record {
 
 -- ---- the drop test
 
-pub farthest-is : (d : Length) (n : ℕ) → farthest squares d n ≡ counts (d .straight) (d .diagonal + n)
-farthest-is d zero = let e : d .diagonal + 0 ≡ d .diagonal = omega arith in rw e
-farthest-is d (suc n) =
-    let e : d .diagonal + 1 + n ≡ d .diagonal + suc n = omega arith in
-    farthest-is (counts (d .straight) (d .diagonal + 1)) n ∙ ap (counts (d .straight)) e
-
-module _ (from : Length) (n : ℕ) (p : Progress) (s : Dir) (cs : List ℕ) (all : length cs ≡ p .paths) where
-  -- without dropping, and before a length is met, nothing is dropped
-  pub not-dropping : (dropping : Bool) → dropping ≡ false
-      → false ≡ drops squares (firstRule squares dropping) (map (startAt (p .greatest)) cs) from s n
-  not-dropping dropping e = rw e
-
-  pub none-met : (dropping : Bool) → p .paths ≡ 0
-      → false ≡ drops squares (firstRule squares dropping) (map (startAt (p .greatest)) cs) from s n
-  none-met dropping e = go cs (all ∙ e) dropping
-    where
-      go : (ds : List ℕ) → length ds ≡ 0 → (b : Bool)
-          → false ≡ drops squares (firstRule squares b) (map (startAt (p .greatest)) ds) from s n
-      go [] h true = refl
-      go [] h false = refl
-      go (d ∷ ds) h b = absurd (omega arith)
+module _ (limit : Length) (p : Progress) where
+  -- before a length is met, nothing is below it
+  pub none-met : p .paths ≡ 0 → isBelow limit p ≡ false
+  unfolding isBelow
+  none-met e = rw e
 
   -- else the limit is compared with the greatest length
-  pub limit-says : (dropping : Bool) → dropping ≡ true → (p .paths ≡ 0 → ⊥) → (o : Order)
-      → compared (counts (from .straight) (from .diagonal + n)) (p .greatest) ≡ o
-      → saysShorter o ≡ drops squares (firstRule squares dropping) (map (startAt (p .greatest)) cs) from s n
-  limit-says dropping e h o k = go cs all
+  pub limit-says : (p .paths ≡ 0 → ⊥) → (o : Order) → compared limit (p .greatest) ≡ o
+      → isBelow limit p ≡ saysShorter o
+  unfolding isBelow
+  limit-says h o k = rw (ne-eqb (p .paths) 0 h) (shorter-says limit (p .greatest) o k)
+
+  -- the starts that an engine holds say the same
+  pub below-starts : (work : List ℕ) (end : ℕ) → isBelow limit p ≡ belowGreatest squares (startsOf p work end) limit
+  unfolding isBelow
+  below-starts work end = go (kept work end (p .paths)) (kept-length work end (p .paths))
     where
-      go : (ds : List ℕ) → length ds ≡ p .paths → saysShorter o ≡ drops squares (firstRule squares dropping)
-          (map (startAt (p .greatest)) ds) from s n
-      go [] q = absurd (h (sym q))
-      go (d ∷ ds) q = rw e (sym (ap (λ (l : Length). isShorter l (p .greatest)) (farthest-is from n)
-          ∙ shorter-says (counts (from .straight) (from .diagonal + n)) (p .greatest) o k))
+      go : (cs : List ℕ) → length cs ≡ p .paths
+          → (not (eqb (p .paths) 0) && isShorter limit (p .greatest))
+          ≡ belowGreatest squares (map (startAt (p .greatest)) cs) limit
+      go [] e = rw (sym e)
+      go (c ∷ cs) e = rw (ne-eqb (p .paths) 0 (λ z. omega (arith, z, e)))

@@ -1,13 +1,14 @@
 -- The search's state as an engine holds it: the starts in a slice, the rest in a struct.
 -- Assumes nothing.
 use mathlib.Core.Path.{_≡_}
+use mathlib.Core.Bool.{Bool, not, _&&_}
 use mathlib.Core.Logic.{_⊎_}
 use mathlib.Core.List.{List, [], _∷_, _++_, map}
 use Prim.Native.Nat.{ℕ, zero, suc, _+_, _-_, _≤_, _<_, _^_}
 use lib.ListN.{length, getD}
 use lib.Dec.{eqb}
 use Rattle.lengths.specs.declared.Length.{Length}
-use Rattle.lengths.specs.Rule.{counts}
+use Rattle.lengths.specs.Rule.{counts, isShorter}
 use Rattle.ground.specs.Compass.{squares}
 use Rattle.ground.specs.Walk.{At}
 use Rattle.search.specs.Search.{State, meet, meetIf}
@@ -30,9 +31,18 @@ startsOf p work end = map (startAt (p .greatest)) (kept work end (p .paths))
 abbrev pub stateOf : Progress → List ℕ → ℕ → State squares
 stateOf p work end = record { starts = startsOf p work end; visited = p .visited; dropped = p .dropped }
 
+-- the greatest length, how many starts have it, the cells visited and the cells dropped
+abbrev pub progressOf : Length → ℕ → ℕ → ℕ → Progress
+progressOf greatest paths visited dropped =
+    record { greatest = greatest; paths = paths; visited = visited; dropped = dropped }
+
 -- nothing is met, visited or dropped
 abbrev pub begun : Progress
-begun = record { greatest = counts 0 0; paths = 0; visited = 0; dropped = 0 }
+begun = progressOf (counts 0 0) 0 0 0
+
+-- has a length been met, and is this one shorter than the greatest?
+unfoldable pub isBelow : Length → Progress → Bool
+isBelow l p = not (eqb (p .paths) 0) && isShorter l (p .greatest)
 
 -- there is room for one start more
 pub record Room (work : List ℕ) (end : ℕ) (p : Progress) : Type 0 where
@@ -54,10 +64,10 @@ pub record Met (old new : List ℕ) (end cell : ℕ) (len : Length) (p r : Progr
   pub one-of : (r .greatest ≡ p .greatest) ⊎ (r .greatest ≡ len)
   pub only : OnlyBefore end (p .paths) old new
 
--- a cell of n cells was visited
-pub record Visited (old new : List ℕ) (end cell n : ℕ) (len : Length) (p r : Progress) : Type 0 where
+-- a cell was visited, and its length met or not
+pub record Visited (old new : List ℕ) (end cell : ℕ) (met : Bool) (len : Length) (p r : Progress) : Type 0 where
   pub state : _≡_ {A = State squares} (stateOf r new end) (record {
-    starts = meetIf squares (eqb n 1) (startsOf p old end) (startAt len cell);
+    starts = meetIf squares met (startsOf p old end) (startAt len cell);
     visited = p .visited + 1;
     dropped = p .dropped;
   })

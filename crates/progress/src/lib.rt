@@ -1,14 +1,15 @@
 // How far a search has come: the starts it has met, and what it has visited and dropped. Both engines use it.
-use ground::index_of;
 use lengths::Length;
 use lengths::Order;
+use lists::index_of;
 ghost use mathlib.Core.Path.{_≡_};
+ghost use mathlib.Core.Bool.{_&&_};
 ghost use mathlib.Core.List.{List, map};
 ghost use Prim.Native.Nat.{ℕ, _+_, _-_, _≤_, _<_, _^_};
 ghost use lib.ListN.{length, set};
-ghost use Rattle.ground.specs.Compass.{Dir, squares};
-ghost use Rattle.search.specs.Search.{firstRule, drops};
-ghost use Rattle.progress.specs.Starts.{begun, startAt, Room, Met, Visited};
+ghost use Rattle.ground.specs.Compass.{squares};
+ghost use Rattle.search.specs.Search.{belowGreatest};
+ghost use Rattle.progress.specs.Starts.{progressOf, begun, isBelow, Room, Met, Visited};
 
 // The greatest length met and how many starts have it, the cells visited and the cells dropped. The starts themselves
 // stand in a slice, before an end: the first next to it, the others further down.
@@ -24,10 +25,7 @@ pub fn begin() -> Progress
     ensures { λ r. ⌜ r ≡ begun ⌝ }
 {
     Progress {
-        greatest: Length {
-            straight: 0,
-            diagonal: 0,
-        },
+        greatest: Length::none(),
         paths: 0,
         visited: 0,
         dropped: 0,
@@ -37,7 +35,7 @@ pub fn begin() -> Progress
 // The first start of a greater length.
 fn restart(work: &mut [u32], end: usize, cell: u32, len: Length, p: Progress) -> Progress
     requires { ⌜ (0 < end) × (end ≤ length (now work)) ⌝ }
-    ensures { λ r. ⌜ (r ≡ record { greatest = len; paths = 1; visited = p .visited; dropped = p .dropped })
+    ensures { λ r. ⌜ (r ≡ progressOf len 1 (p .visited) (p .dropped))
         × (now (work .exit) ≡ set (now (work .entry)) (end - 1) cell) ⌝ }
 {
     work[end - 1] = cell;
@@ -52,7 +50,7 @@ fn restart(work: &mut [u32], end: usize, cell: u32, len: Length, p: Progress) ->
 // One start more of the greatest length.
 fn join(work: &mut [u32], end: usize, cell: u32, p: Progress) -> Progress
     requires { ⌜ Room (now work) end p ⌝ }
-    ensures { λ r. ⌜ (r ≡ record { greatest = p .greatest; paths = p .paths + 1; visited = p .visited; dropped = p .dropped })
+    ensures { λ r. ⌜ (r ≡ progressOf (p .greatest) (p .paths + 1) (p .visited) (p .dropped))
         × (now (work .exit) ≡ set (now (work .entry)) (end - (p .paths + 1)) cell) ⌝ }
 {
     let paths = p.paths + 1;
@@ -82,10 +80,17 @@ fn meet(work: &mut [u32], end: usize, cell: u32, len: Length, p: Progress) -> Pr
     }
 }
 
-// A cell of n cells is visited at its length; a headwater meets it.
-pub fn visit(work: &mut [u32], end: usize, cell: u32, n: u32, len: Length, p: Progress) -> Progress
+// A cell is visited at its length, which is met or not.
+pub fn visit(
+    work: &mut [u32],
+    end: usize,
+    cell: u32,
+    met: bool,
+    len: Length,
+    p: Progress,
+) -> Progress
     requires { ⌜ Room (now work) end p × (p .visited < 2 ^ 24) ⌝ }
-    ensures { λ r. ⌜ Visited (now (work .entry)) (now (work .exit)) end cell n len p r ⌝ }
+    ensures { λ r. ⌜ Visited (now (work .entry)) (now (work .exit)) end cell met len p r ⌝ }
 {
     let greatest = p.greatest;
     let q = Progress {
@@ -94,7 +99,7 @@ pub fn visit(work: &mut [u32], end: usize, cell: u32, n: u32, len: Length, p: Pr
         visited: p.visited + 1,
         dropped: p.dropped,
     };
-    if n == 1 {
+    if met {
         return meet(work, end, cell, len, q);
     }
     q
@@ -103,7 +108,7 @@ pub fn visit(work: &mut [u32], end: usize, cell: u32, n: u32, len: Length, p: Pr
 // A neighbour is dropped with its n cells.
 pub fn drop_cells(p: Progress, n: u32) -> Progress
     requires { ⌜ p .dropped + n ≤ 2 ^ 24 ⌝ }
-    ensures { λ r. ⌜ r ≡ record { greatest = p .greatest; paths = p .paths; visited = p .visited; dropped = p .dropped + n } ⌝ }
+    ensures { λ r. ⌜ r ≡ progressOf (p .greatest) (p .paths) (p .visited) (p .dropped + n) ⌝ }
 {
     let greatest = p.greatest;
     Progress {
@@ -114,11 +119,9 @@ pub fn drop_cells(p: Progress, n: u32) -> Progress
     }
 }
 
-// Is a neighbour of n cells to be dropped, from a cell at this length? Not before a length is met, and not at a tie.
-pub fn is_dropped(dropping: bool, from: Length, n: u32, p: Progress) -> bool
-    requires { ⌜ (from .diagonal ≤ 2 ^ 24) × (n ≤ 2 ^ 24) ⌝ }
-    ensures { λ r. ⌜ ((s : Dir) (cs : List ℕ) → length cs ≡ p .paths
-        → r ≡ drops squares (firstRule squares dropping) (map (startAt (p .greatest)) cs) from s n) ⌝ }
+// Is a neighbour of this limit to be dropped? Not before a length is met, and not at a tie.
+pub fn is_dropped(dropping: bool, limit: Length, p: Progress) -> bool
+    ensures { λ r. ⌜ r ≡ (dropping && isBelow limit p) ⌝ }
 {
     if !dropping {
         return false;
@@ -126,10 +129,6 @@ pub fn is_dropped(dropping: bool, from: Length, n: u32, p: Progress) -> bool
     if p.paths == 0 {
         return false;
     }
-    let limit = Length {
-        straight: from.straight,
-        diagonal: from.diagonal + n,
-    };
     let greatest = p.greatest;
     match limit.compare(greatest) {
         Order::Shorter => true,

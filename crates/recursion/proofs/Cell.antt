@@ -1,7 +1,7 @@
 -- A cell is entered: what its visit makes of the search, and what its inflows make of the rest.
 -- Assumes nothing.
 use mathlib.Core.Path.{_≡_, sym, ap, _∙_, subst}
-use mathlib.Core.Bool.{Bool, true}
+use mathlib.Core.Bool.{Bool}
 use mathlib.Core.List.{List}
 use Prim.Native.Nat.{ℕ, suc, _+_, _*_, _≤_, _<_, _^_}
 use native.Mathlib.Omega.{arith}
@@ -11,18 +11,18 @@ use lib.Dec.{eqb}
 use Rattle.lengths.specs.declared.Length.{Length}
 use Rattle.lengths.specs.Rule.{counts}
 use Rattle.ground.specs.Compass.{dirs, squares}
-use Rattle.ground.specs.Grid.{Grid, gridOf, ground}
+use Rattle.ground.specs.Grid.{Grid, gridOf}
 use Rattle.ground.specs.Accumulation.{subaccumulation}
 use Rattle.ground.specs.Forest.{forest}
 use Rattle.ground.proofs.Ground.{sub-size}
+use Rattle.moves.proofs.Spots.{size}
 use Rattle.search.specs.Search.{State, meetIf, Rule, firstRule, visit}
 use Rattle.search.specs.Neighbours.{cellsIn, turnTo, enter}
 use Rattle.search.proofs.Neighbours.{visit-is, cells-above, search-enters}
 use Rattle.progress.specs.declared.Progress.{Progress}
-use Rattle.progress.specs.Starts.{kept, begun, startAt, startsOf, stateOf, Visited}
-use Rattle.upstream.specs.Ready.{Ready, OnGround, Searched}
-use Rattle.recursion.specs.Tracing.{Bounded, CellReady, InflowsReady, Counted, CellTraced, InflowsTraced}
-use Rattle.recursion.proofs.Turning.{cell-fits}
+use Rattle.progress.specs.Starts.{kept, begun, startAt, startsOf, stateOf}
+use Rattle.upstream.specs.Ready.{Ready, OnGround}
+use Rattle.recursion.specs.Tracing.{VisitedAt, CellReady, InflowsReady, CellTraced, InflowsTraced, Traced}
 
 module _ {rows cols : ℕ} {codes outlets subs : List ℕ} (ready : Ready rows cols codes outlets subs) where
   abbrev g : Grid
@@ -43,8 +43,8 @@ module _ {rows cols : ℕ} {codes outlets subs : List ℕ} (ready : Ready rows c
     -- a cell of ground has a place in the lent list, and the record has room for it
     pub has-place : (x < length subs) × (x < 2 ^ 24)
     has-place =
-        let f = cell-fits rows cols row col (ready .rows-small) (ready .cols-small) (cell .row-in) (cell .col-in) in
-        (omega (arith, f, ready .has-subs), omega (arith, f))
+        let h = digits-lt (cell .row-in) (cell .col-in) in
+        (omega (arith, h, ready .has-subs), omega (arith, h, size (ready .grid .sides)))
 
     pub has-room : (p .paths < 4096) × (p .visited < 4096)
     has-room =
@@ -54,17 +54,16 @@ module _ {rows cols : ℕ} {codes outlets subs : List ℕ} (ready : Ready rows c
     above : suc (cellsIn g outlets dirs x) ≡ sub x
     above = cells-above g (ready .lent) (ready .agreed) outlets x (cell .solid)
 
-    module _ {q : Progress} {mid : List ℕ} (v : Visited old mid 4096 x (getD subs x 0) len p q
-        × (length mid ≡ length old)) where
+    module _ {q : Progress} {mid : List ℕ} (v : VisitedAt subs x len p old q mid) where
       visited-one : q .visited ≡ p .visited + 1
-      visited-one = ap (λ (st : State squares). st .visited) (v .0 .state)
+      visited-one = ap (λ (st : State squares). st .visited) (v .visited .state)
 
       dropped-none : q .dropped ≡ p .dropped
-      dropped-none = ap (λ (st : State squares). st .dropped) (v .0 .state)
+      dropped-none = ap (λ (st : State squares). st .dropped) (v .visited .state)
 
       pub inflows-ready : InflowsReady rows cols codes outlets row col len 0 q mid
       inflows-ready = let b = cell .bounded in record {
-        room = v .1 ∙ cell .room;
+        room = v .room ∙ cell .room;
         row-in = cell .row-in;
         col-in = cell .col-in;
         solid = cell .solid;
@@ -72,7 +71,7 @@ module _ {rows cols : ℕ} {codes outlets subs : List ℕ} (ready : Ready rows c
         bounded = record {
           cells-fit = omega (arith, visited-one, dropped-none, above);
           steps-fit = omega (arith, above);
-          few-paths = omega (arith, visited-one, v .0 .few);
+          few-paths = omega (arith, visited-one, v .visited .few);
         };
       }
 
@@ -81,7 +80,7 @@ module _ {rows cols : ℕ} {codes outlets subs : List ℕ} (ready : Ready rows c
           → CellTraced rows cols codes outlets dropping row col len p old r new
       unfolding enter
       cell-traced dropping r new t = record {
-        state = t .state ∙ ap (turnTo squares rule g outlets dirs x len) (v .0 .state
+        state = t .state ∙ ap (turnTo squares rule g outlets dirs x len) (v .visited .state
             ∙ sym (seen ∙ ap (λ (m : ℕ). met m) (sym (cells-read row col (cell .row-in) (cell .col-in)))));
         room = t .room;
         counted = record {
@@ -106,25 +105,32 @@ module _ {rows cols : ℕ} {codes outlets subs : List ℕ} (ready : Ready rows c
 
   -- ---- the whole search
 
-  module _ {row col : ℕ} (at : OnGround rows cols codes row col) {p : Progress} (nothing : p ≡ begun) where
+  module _ {row col : ℕ} (at : OnGround rows cols codes row col) {p : Progress} (nothing : p ≡ begun)
+      {len : Length} (no-step : len ≡ counts 0 0) where
     pub outlet-ready : (old : List ℕ) → sub (row * cols + col) ≤ 4096 → length old ≡ 4096
-        → CellReady rows cols codes outlets row col (counts 0 0) p old
+        → CellReady rows cols codes outlets row col len p old
     outlet-ready old h e = record {
       room = e;
       row-in = at .row-in;
       col-in = at .col-in;
       solid = at .solid;
-      bounded = rw nothing (record { cells-fit = omega arith; steps-fit = omega arith; few-paths = omega arith });
+      bounded = rw (nothing, no-step)
+          (record { cells-fit = omega arith; steps-fit = omega arith; few-paths = omega arith });
     }
 
-    pub searched : (dropping : Bool) (old : List ℕ) (r : Progress) (new : List ℕ)
-        → CellTraced rows cols codes outlets dropping row col (counts 0 0) p old r new
-        → Searched g outlets dropping (row * cols + col) 4096 r new
+    pub traced : (dropping : Bool) (old : List ℕ) (r : Progress) (new : List ℕ)
+        → CellTraced rows cols codes outlets dropping row col len p old r new
+        → Traced rows cols codes outlets dropping row col r new
     unfolding kept
-    searched dropping old r new t = let c = subst (λ q. CellTraced rows cols codes outlets dropping row col (counts 0 0)
-        q old r new) nothing t in record {
-          state = c .state ∙ sym (search-enters squares (firstRule squares dropping) g outlets (ready .lent) (ready .agreed)
-              (row * cols + col) (at .solid));
-          all-cells = omega (arith, c .counted .cells-done);
-          few-paths = c .counted .few-paths;
+    traced dropping old r new t =
+        let c = subst (λ q. CellTraced rows cols codes outlets dropping row col (counts 0 0) q old r new) nothing
+        (subst (λ l. CellTraced rows cols codes outlets dropping row col l p old r new) no-step t) in
+        record {
+          searched = record {
+            state = c .state ∙ sym (search-enters squares (firstRule squares dropping) g outlets (ready .lent)
+                (ready .agreed) (row * cols + col) (at .solid));
+            all-cells = omega (arith, c .counted .cells-done);
+            few-paths = c .counted .few-paths;
+          };
+          room = c .room;
         }

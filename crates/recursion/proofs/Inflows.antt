@@ -1,23 +1,22 @@
 -- The inflows of a cell: the search turns to the next neighbour, and drops or traces it before the others.
 -- Assumes nothing.
 use mathlib.Core.Path.{_≡_, refl, sym, ap, _∙_}
-use mathlib.Core.Bool.{Bool, true, false}
-use mathlib.Core.List.{List, [], _∷_, map}
+use mathlib.Core.Bool.{Bool, true, false, _&&_}
+use mathlib.Core.List.{List, [], _∷_}
 use mathlib.Core.Option.{none}
 use Prim.Native.Nat.{ℕ, zero, suc, _+_, _-_, _*_, _≤_, _<_}
 use native.Mathlib.Numerals.{add-one}
 use native.Mathlib.Omega.{arith}
-use lib.ListN.{length, drop}
+use lib.ListN.{getD, drop}
 use lib.Arith.{digits-lt}
-use Rattle.lengths.specs.declared.Step.{Step}
-use Rattle.lengths.specs.declared.Step.the-variants.{Straight, Diagonal}
 use Rattle.lengths.specs.declared.Length.{Length}
 use Rattle.lengths.specs.Rule.{plusStep}
-use Rattle.ground.specs.Compass.{Dir, dirs, opposite, squares}
-use Rattle.ground.specs.Grid.{Grid, gridOf, ground}
+use Rattle.lengths.specs.Lengths.{squareCells, farthest}
+use Rattle.ground.specs.Compass.{Dir, dirs, opposite, stepOf, squares}
+use Rattle.ground.specs.Grid.{Grid, gridOf, codeAt, ground}
 use Rattle.ground.specs.Accumulation.{subaccumulation}
-use Rattle.ground.specs.Moves.{dirAt}
-use Rattle.ground.proofs.Ground.{sub-size}
+use Rattle.ground.proofs.Cells.{code-inside}
+use Rattle.moves.specs.Moves.{dirAt, leadOf, stepBy}
 use Rattle.search.specs.Search.{State, Rule, firstRule, drops, dropCells}
 use Rattle.search.specs.Neighbours.{inflowIn, cellsIn, turnTo, enter}
 use Rattle.search.proofs.Neighbours.{
@@ -31,20 +30,12 @@ use Rattle.search.proofs.Neighbours.{
   cells-above,
 }
 use Rattle.progress.specs.declared.Progress.{Progress}
-use Rattle.progress.specs.Starts.{kept, startAt, startsOf, stateOf}
-use Rattle.progress.proofs.Kept.{kept-length}
+use Rattle.progress.specs.Starts.{isBelow, startsOf, stateOf}
+use Rattle.progress.proofs.Kept.{below-starts}
 use Rattle.upstream.specs.Ready.{Ready}
+use Rattle.upstream.proofs.Entering.{one-step, own-step, drops-by}
 use Rattle.recursion.specs.declared.Turn.{Turn}
-use Rattle.recursion.specs.Tracing.{
-  stepFrom,
-  NextTurn,
-  Bounded,
-  CellReady,
-  InflowsReady,
-  Counted,
-  CellTraced,
-  InflowsTraced,
-}
+use Rattle.recursion.specs.Tracing.{NextTurn, CellReady, InflowsReady, CellTraced, InflowsTraced}
 use Rattle.recursion.proofs.Turning.{dirs-from}
 
 -- fewer directions, fewer cells
@@ -54,11 +45,6 @@ unfolding cellsIn
 cells-from g outlets x zero ds = omega arith
 cells-from g outlets x (suc k) [] = omega arith
 cells-from g outlets x (suc k) (d ∷ ds) = omega (arith, cells-from g outlets x k ds)
-
--- a step is one step more
-one-step : (l : Length) (s : Step) → (plusStep l s) .straight + (plusStep l s) .diagonal ≡ l .straight + l .diagonal + 1
-one-step l Straight = omega arith
-one-step l Diagonal = omega arith
 
 -- directions in which there is nothing to turn to are passed over
 module _ (rule : Rule squares) (g : Grid) (outlets : List ℕ) (x : ℕ) (len : Length) (st : State squares) where
@@ -87,7 +73,8 @@ module _ (rule : Rule squares) (g : Grid) (outlets : List ℕ) (x : ℕ) (len : 
 
   to-turn : {rows cols : ℕ} {codes subs : List ℕ} {row col k : ℕ} {t : Turn}
       → NextTurn rows cols codes outlets subs row col k t → g ≡ gridOf rows cols codes → x ≡ row * cols + col
-      → (turnTo squares rule g outlets (drop k dirs) x len st ≡ turnTo squares rule g outlets (drop (t .k) dirs) x len st)
+      → (turnTo squares rule g outlets (drop k dirs) x len st
+      ≡ turnTo squares rule g outlets (drop (t .k) dirs) x len st)
       × (cellsIn g outlets (drop k dirs) x ≡ cellsIn g outlets (drop (t .k) dirs) x)
   to-turn {k} {t} next is-g is-x =
       let e : k + (t .k - k) ≡ t .k = omega (arith, next .from) in
@@ -113,7 +100,8 @@ module _ {rows cols : ℕ} {codes outlets subs : List ℕ} (ready : Ready rows c
   abbrev st : State squares
   st = stateOf p old 4096
 
-  turned : (turnTo squares rule g outlets (drop k dirs) x len st ≡ turnTo squares rule g outlets (drop (t .k) dirs) x len st)
+  turned : (turnTo squares rule g outlets (drop k dirs) x len st
+      ≡ turnTo squares rule g outlets (drop (t .k) dirs) x len st)
       × (cellsIn g outlets (drop k dirs) x ≡ cellsIn g outlets (drop (t .k) dirs) x)
   turned = to-turn rule g outlets x len st next refl refl
 
@@ -146,22 +134,36 @@ module _ {rows cols : ℕ} {codes outlets subs : List ℕ} (ready : Ready rows c
     unfolding cellsIn
     left-cells = turned .1 ∙ rw (dirs-from (t .k) h, next .there h, add-one (t .k))
 
-    -- the number of its cells is told with it
-    pub told-cells : t .cells ≡ sub y
-    told-cells = next .counted h ∙ ready .filled y (digits-lt (next .row-in h) (next .col-in h))
+    inside : y < rows * cols
+    inside = digits-lt (next .row-in h) (next .col-in h)
+
+    -- its cells and its step, as the source has them
+    pub cells-lent : t .cells ≡ getD subs y 0
+    cells-lent = ap (λ (u : Turn). u .cells) (next .is-turn h)
+
+    pub cells-are : t .cells ≡ sub y
+    cells-are = cells-lent ∙ ready .filled y inside
+
+    code-is : codeAt g y ≡ getD codes y 0
+    code-is = code-inside g y inside
+
+    step-is : plusStep len (t .step) ≡ plusStep len (stepOf (opposite (dirAt (t .k))))
+    step-is = ap (λ (u : Turn). plusStep len (u .step)) (next .is-turn h)
+        ∙ ap (λ (m : ℕ). plusStep len (stepBy (leadOf m))) (sym code-is)
+        ∙ own-step g outlets x (dirAt (t .k)) y found len
 
     -- it has fewer cells than the cell it flows to
     pub fewer : t .cells < sub x
     fewer = omega (
       arith,
-      told-cells,
+      cells-are,
       left-cells,
       cells-from g outlets x k dirs,
       cells-above g (ready .lent) (ready .agreed) outlets x (inflows .solid),
     )
 
     pub small-cells : p .dropped + t .cells ≤ 4096
-    small-cells = omega (arith, told-cells, left-cells, inflows .bounded .cells-fit)
+    small-cells = omega (arith, cells-are, left-cells, inflows .bounded .cells-fit)
 
     pub small-len : len .straight + len .diagonal < 4096
     small-len = omega (arith, inflows .bounded .steps-fit)
@@ -170,11 +172,12 @@ module _ {rows cols : ℕ} {codes outlets subs : List ℕ} (ready : Ready rows c
         ≡ turnTo squares rule g outlets (dirAt (t .k) ∷ drop (t .k + 1) dirs) x len st
     opened = turned .0 ∙ ap (λ ds. turnTo squares rule g outlets ds x len st) (dirs-from (t .k) h ∙ rw (add-one (t .k)))
 
-    module _ {b : Bool} (tests : (s : Dir) (cs : List ℕ) → length cs ≡ p .paths
-        → b ≡ drops squares rule (map (startAt (p .greatest)) cs) len s (t .cells)) where
+    module _ {b : Bool} {limit : Length} (is-limit : limit ≡ farthest squareCells len (t .cells))
+        (tests : b ≡ (dropping && isBelow limit p)) where
       test : b ≡ drops squares rule (startsOf p old 4096) len (opposite (dirAt (t .k))) (sub y)
-      test = tests (opposite (dirAt (t .k))) (kept old 4096 (p .paths)) (kept-length old 4096 (p .paths))
-          ∙ ap (drops squares rule (startsOf p old 4096) len (opposite (dirAt (t .k)))) told-cells
+      test = tests ∙ ap (λ (x : Bool). dropping && x) (below-starts limit p old 4096)
+          ∙ drops-by dropping (startsOf p old 4096) len (opposite (dirAt (t .k))) (t .cells) is-limit
+          ∙ ap (drops squares rule (startsOf p old 4096) len (opposite (dirAt (t .k)))) cells-are
 
       -- it is dropped
       abbrev less : Progress
@@ -188,7 +191,7 @@ module _ {rows cols : ℕ} {codes outlets subs : List ℕ} (ready : Ready rows c
         solid = inflows .solid;
         within = omega arith;
         bounded = record {
-          cells-fit = omega (arith, told-cells, left-cells);
+          cells-fit = omega (arith, cells-are, left-cells);
           steps-fit = omega (arith, left-cells);
           few-paths = u .few-paths;
         };
@@ -201,18 +204,18 @@ module _ {rows cols : ℕ} {codes outlets subs : List ℕ} (ready : Ready rows c
         state = i .state ∙ sym (opened ∙ turn-drops squares rule g outlets x (dirAt (t .k)) (drop (t .k + 1) dirs)
             len st (ready .lent) (ready .agreed) y found (sym test ∙ e)
             ∙ ap (λ (m : ℕ). turnTo squares rule g outlets (drop (t .k + 1) dirs) x len (dropCells squares st m))
-            (sym told-cells));
+            (sym cells-are));
         room = i .room;
         counted = record {
-          cells-done = omega (arith, i .counted .cells-done, told-cells, left-cells);
+          cells-done = omega (arith, i .counted .cells-done, cells-are, left-cells);
           few-paths = i .counted .few-paths;
         };
       }
 
       -- it is traced
-      module _ (e : b ≡ false) {own : Length} (is-own : own ≡ plusStep len (stepFrom (t .k))) where
+      module _ (e : b ≡ false) {own : Length} (is-own : own ≡ plusStep len (t .step)) where
         own-steps : own .straight + own .diagonal ≡ len .straight + len .diagonal + 1
-        own-steps = ap (λ (l : Length). l .straight + l .diagonal) is-own ∙ one-step len (stepFrom (t .k))
+        own-steps = ap (λ (l : Length). l .straight + l .diagonal) is-own ∙ one-step len (t .step)
 
         pub cell-ready : CellReady rows cols codes outlets (t .row) (t .col) own p old
         cell-ready = let u = inflows .bounded in record {
@@ -246,10 +249,9 @@ module _ {rows cols : ℕ} {codes outlets subs : List ℕ} (ready : Ready rows c
           pub rest-traced : (r : Progress) (new : List ℕ)
               → InflowsTraced rows cols codes outlets dropping row col len (t .k + 1) q mid r new
               → InflowsTraced rows cols codes outlets dropping row col len k p old r new
-          unfolding stepFrom
           rest-traced r new i = record {
             state = i .state ∙ ap (turnTo squares rule g outlets (drop (t .k + 1) dirs) x len) (c .state
-                ∙ ap (λ (l : Length). enter squares rule g outlets y l st) is-own)
+                ∙ ap (λ (l : Length). enter squares rule g outlets y l st) (is-own ∙ step-is))
                 ∙ sym (opened ∙ turn-enters squares rule g outlets x (dirAt (t .k)) (drop (t .k + 1) dirs) len st
                 (ready .lent) (ready .agreed) y found (sym test ∙ e));
             room = i .room;

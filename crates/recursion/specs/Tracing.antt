@@ -3,35 +3,56 @@
 use mathlib.Core.Path.{_≡_}
 use mathlib.Core.Bool.{Bool, true}
 use mathlib.Core.List.{List}
-use mathlib.Core.Option.{Option, none, some}
+use mathlib.Core.Option.{none, some}
 use Prim.Native.Nat.{ℕ, _+_, _*_, _≤_, _<_}
 use lib.ListN.{length, getD, drop}
-use Rattle.lengths.specs.declared.Step.{Step}
+use lib.Dec.{eqb}
 use Rattle.lengths.specs.declared.Length.{Length}
-use Rattle.ground.specs.Compass.{Dir, dirs, opposite, stepOf, squares}
-use Rattle.ground.specs.Grid.{Grid, gridOf, ground}
+use Rattle.ground.specs.Compass.{dirs, squares}
+use Rattle.ground.specs.Grid.{gridOf, ground}
 use Rattle.ground.specs.Accumulation.{subaccumulation}
-use Rattle.ground.specs.Moves.{dirAt}
+use Rattle.moves.specs.Lent.{OnCell}
+use Rattle.moves.specs.Moves.{dirAt, leadOf, stepBy}
 use Rattle.search.specs.Search.{State, firstRule}
 use Rattle.search.specs.Neighbours.{inflowIn, cellsIn, turnTo, enter}
 use Rattle.progress.specs.declared.Progress.{Progress}
-use Rattle.progress.specs.Starts.{stateOf}
+use Rattle.progress.specs.Starts.{stateOf, Visited}
+use Rattle.upstream.specs.Ready.{Searched}
 use Rattle.recursion.specs.declared.Turn.{Turn}
 
--- the step down from neighbour k
-unfoldable pub stepFrom : ℕ → Step
-stepFrom k = stepOf (opposite (dirAt k))
+-- the turn to neighbour k, at a row and a column: its cells and its step by what is lent
+abbrev pub turnAt : ℕ → List ℕ → List ℕ → ℕ → ℕ → ℕ → Turn
+turnAt cols codes subs k row col = record {
+  k = k;
+  row = row;
+  col = col;
+  cells = getD subs (row * cols + col) 0;
+  step = stepBy (leadOf (getD codes (row * cols + col) 0));
+}
+
+-- a cell whose neighbours are looked at, from k on
+pub record TurnReady (rows cols : ℕ) (codes subs : List ℕ) (row col k : ℕ) : Type 0 where
+  pub on : OnCell rows cols codes row col
+  pub has-subs : rows * cols ≤ length subs
+  pub within : k ≤ 8
 
 -- the next direction, from k on, in which there is something to turn to
 pub record NextTurn (rows cols : ℕ) (codes outlets subs : List ℕ) (row col k : ℕ) (r : Turn) : Type 0 where
   pub from : k ≤ r .k
   pub last : r .k ≤ 8
-  pub skipped : (i : ℕ) → k ≤ i → i < r .k → inflowIn (gridOf rows cols codes) outlets (row * cols + col) (dirAt i) ≡ none
+  pub skipped : (i : ℕ) → k ≤ i → i < r .k → inflowIn (gridOf rows cols codes) outlets (row * cols + col) (dirAt i)
+      ≡ none
   pub there : r .k < 8 → inflowIn (gridOf rows cols codes) outlets (row * cols + col) (dirAt (r .k))
       ≡ some (r .row * cols + r .col)
   pub row-in : r .k < 8 → r .row < rows
   pub col-in : r .k < 8 → r .col < cols
-  pub counted : r .k < 8 → r .cells ≡ getD subs (r .row * cols + r .col) 0
+  pub is-turn : r .k < 8 → r ≡ turnAt cols codes subs (r .k) (r .row) (r .col)
+
+-- a cell was visited; a headwater, of one cell, has met its length
+pub record VisitedAt (subs : List ℕ) (x : ℕ) (len : Length) (p : Progress) (old : List ℕ) (r : Progress) (new : List ℕ)
+    : Type 0 where
+  pub visited : Visited old new 4096 x (eqb (getD subs x 0) 1) len p r
+  pub room : length new ≡ length old
 
 -- the search has this many cells to go at most, of the 4,096 for which there is room; lengths are no more than cells
 pub record Bounded (cells steps : ℕ) (p : Progress) : Type 0 where
@@ -80,3 +101,9 @@ pub record InflowsTraced (rows cols : ℕ) (codes outlets : List ℕ) (dropping 
       len (stateOf p old 4096))
   pub room : length new ≡ 4096
   pub counted : Counted (cellsIn (gridOf rows cols codes) outlets (drop k dirs) (row * cols + col)) p r
+
+-- the whole search, with the starts before the end of the array
+pub record Traced (rows cols : ℕ) (codes outlets : List ℕ) (dropping : Bool) (row col : ℕ) (r : Progress)
+    (new : List ℕ) : Type 0 where
+  pub searched : Searched (gridOf rows cols codes) outlets dropping (row * cols + col) 4096 r new
+  pub room : length new ≡ 4096

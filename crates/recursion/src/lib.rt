@@ -1,38 +1,52 @@
 // The search by recursion: tracing a cell and tracing its inflows, each calling the other.
-use ground::Spot;
 use lengths::Length;
 use lengths::Step;
+use moves::Spot;
+use moves::step_of;
 use progress::Progress;
 use progress::begin;
 use progress::drop_cells;
 use progress::is_dropped;
 use progress::visit;
-use upstream::inflow_from;
+use upstream::tributary_from;
 ghost use mathlib.Core.Path.{_≡_};
-ghost use mathlib.Core.List.{List};
-ghost use Prim.Native.Nat.{ℕ, _+_, _*_, _≤_, _<_, _^_};
-ghost use lib.ListN.{length, getD};
-ghost use Rattle.ground.specs.Grid.{gridOf};
-ghost use Rattle.ground.specs.Accumulation.{subaccumulation};
-ghost use Rattle.progress.specs.Starts.{Visited};
-ghost use Rattle.upstream.specs.Turns.{OnCell};
-ghost use Rattle.upstream.specs.Ready.{Ready, OnGround, Searched};
-ghost use Rattle.recursion.specs.Tracing.{stepFrom, NextTurn, CellReady, InflowsReady, CellTraced, InflowsTraced};
+ghost use Prim.Native.Nat.{_+_, _*_, _≤_, _<_, _^_};
+ghost use lib.ListN.{length};
+ghost use Rattle.upstream.specs.Ready.{Ready, OnGround, cellsAt};
+ghost use Rattle.recursion.specs.Tracing.{turnAt, TurnReady, NextTurn, VisitedAt, Traced};
+ghost use Rattle.recursion.specs.Tracing.{CellReady, InflowsReady, CellTraced, InflowsTraced};
 
-// Where the search turns to next: neighbour k, at a row and a column, with so many cells. No neighbour is left where k is 8.
+// Where the search turns to next: neighbour k, at a row and a column, with so many cells, and its step down. No
+// neighbour is left where k is 8.
 pub struct Turn {
     pub k: usize,
     pub row: usize,
     pub col: usize,
     pub cells: u32,
+    pub step: Step,
 }
 
-// The cells of a subwatershed that drain through a cell.
-fn cells_at(cols: usize, subs: &[u32], row: usize, col: usize) -> u32
-    requires { ⌜ (row * cols + col < length (now subs)) × (row * cols + col < 2 ^ 24) ⌝ }
-    ensures { λ r. ⌜ r ≡ getD (now (subs .entry)) (row * cols + col) 0 ⌝ }
+// The turn to a neighbour.
+fn turn_at(
+    cols: usize,
+    codes: &[u8],
+    subaccumulation: &[u32],
+    k: usize,
+    row: usize,
+    col: usize,
+) -> Turn
+    requires { ⌜ (row * cols + col < length (now codes)) × (row * cols + col < length (now subaccumulation))
+        × (row * cols + col < 2 ^ 24) ⌝ }
+    ensures { λ r. ⌜ r ≡ turnAt cols (now (codes .entry)) (now (subaccumulation .entry)) k row col ⌝ }
 {
-    subs[row * cols + col]
+    let at = row * cols + col;
+    Turn {
+        k,
+        row,
+        col,
+        cells: subaccumulation[at],
+        step: step_of(codes[at]),
+    }
 }
 
 // The next neighbour, from k on, that flows in and is no outlet.
@@ -41,25 +55,29 @@ fn next_turn(
     cols: usize,
     codes: &[u8],
     outlets: &[u32],
-    subs: &[u32],
+    subaccumulation: &[u32],
     row: usize,
     col: usize,
     k: usize,
 ) -> Turn
-    requires { ⌜ OnCell rows cols (now codes) row col × (rows * cols ≤ length (now subs)) × (k ≤ 8) ⌝ }
-    ensures { λ r. ⌜ NextTurn rows cols (now (codes .entry)) (now (outlets .entry)) (now (subs .entry)) row col k r ⌝ }
+    requires { ⌜ TurnReady rows cols (now codes) (now subaccumulation) row col k ⌝ }
+    ensures { λ r. ⌜ NextTurn rows cols (now (codes .entry)) (now (outlets .entry)) (now (subaccumulation .entry))
+        row col k r ⌝ }
 {
     let mut n = k;
     while n < 8 {
         let at = n;
         n += 1;
-        if let Spot::On { row: r, col: c } = inflow_from(rows, cols, codes, outlets, row, col, at) {
-            return Turn {
-                k: at,
-                row: r,
-                col: c,
-                cells: cells_at(cols, subs, r, c),
-            };
+        if let Spot::On { row: r, col: c } = tributary_from(
+            rows,
+            cols,
+            codes,
+            outlets,
+            row,
+            col,
+            at,
+        ) {
+            return turn_at(cols, codes, subaccumulation, at, r, c);
         }
     }
     Turn {
@@ -67,40 +85,28 @@ fn next_turn(
         row,
         col,
         cells: 0,
+        step: Step::Straight,
     }
 }
 
-// The step down from neighbour k.
-fn step_from(k: usize) -> Step
-    requires { ⌜ k < 8 ⌝ }
-    ensures { λ r. ⌜ r ≡ stepFrom k ⌝ }
-{
-    match k {
-        1 => Step::Diagonal,
-        3 => Step::Diagonal,
-        5 => Step::Diagonal,
-        7 => Step::Diagonal,
-        _ => Step::Straight,
-    }
-}
-
-// A cell is visited at its length.
+// A cell is visited at its length; a headwater meets it.
 fn visit_at(
     cols: usize,
-    subs: &[u32],
+    subaccumulation: &[u32],
     row: usize,
     col: usize,
     len: Length,
     p: Progress,
     found: &mut [u32; 4096],
 ) -> Progress
-    requires { ⌜ (row * cols + col < length (now subs)) × (row * cols + col < 2 ^ 24) ⌝ }
+    requires { ⌜ (row * cols + col < length (now subaccumulation)) × (row * cols + col < 2 ^ 24) ⌝ }
     requires { ⌜ (p .paths < 4096) × (p .visited < 4096) ⌝ }
-    ensures { λ r. ⌜ Visited (now (found .entry)) (now (found .exit)) 4096 (row * cols + col) (getD (now (subs .entry)) (row * cols + col) 0) len p r
-        × (length (now (found .exit)) ≡ length (now (found .entry))) ⌝ }
+    ensures { λ r. ⌜ VisitedAt (now (subaccumulation .entry)) (row * cols + col) len p (now (found .entry)) r
+        (now (found .exit)) ⌝ }
 {
-    let n = cells_at(cols, subs, row, col);
-    visit(found, 4096, (row * cols + col) as u32, n, len, p)
+    let at = row * cols + col;
+    let n = subaccumulation[at];
+    visit(found, 4096, at as u32, n == 1, len, p)
 }
 
 // A cell is visited, then its inflows.
@@ -109,7 +115,7 @@ fn trace_cell(
     cols: usize,
     codes: &[u8],
     outlets: &[u32],
-    subs: &[u32],
+    subaccumulation: &[u32],
     dropping: bool,
     row: usize,
     col: usize,
@@ -117,17 +123,18 @@ fn trace_cell(
     p: Progress,
     found: &mut [u32; 4096],
 ) -> Progress
-    requires { ⌜ Ready rows cols (now codes) (now outlets) (now subs) ⌝ }
+    requires { ⌜ Ready rows cols (now codes) (now outlets) (now subaccumulation) ⌝ }
     requires { ⌜ CellReady rows cols (now codes) (now outlets) row col len p (now found) ⌝ }
-    ensures { λ r. ⌜ CellTraced rows cols (now (codes .entry)) (now (outlets .entry)) dropping row col len p (now (found .entry)) r (now (found .exit)) ⌝ }
+    ensures { λ r. ⌜ CellTraced rows cols (now (codes .entry)) (now (outlets .entry)) dropping row col len p
+        (now (found .entry)) r (now (found .exit)) ⌝ }
 {
-    let q = visit_at(cols, subs, row, col, len, p, found);
+    let q = visit_at(cols, subaccumulation, row, col, len, p, found);
     trace_inflows(
         rows,
         cols,
         codes,
         outlets,
-        subs,
+        subaccumulation,
         dropping,
         row,
         col,
@@ -144,7 +151,7 @@ fn trace_inflows(
     cols: usize,
     codes: &[u8],
     outlets: &[u32],
-    subs: &[u32],
+    subaccumulation: &[u32],
     dropping: bool,
     row: usize,
     col: usize,
@@ -153,23 +160,24 @@ fn trace_inflows(
     p: Progress,
     found: &mut [u32; 4096],
 ) -> Progress
-    requires { ⌜ Ready rows cols (now codes) (now outlets) (now subs) ⌝ }
+    requires { ⌜ Ready rows cols (now codes) (now outlets) (now subaccumulation) ⌝ }
     requires { ⌜ InflowsReady rows cols (now codes) (now outlets) row col len k p (now found) ⌝ }
-    ensures { λ r. ⌜ InflowsTraced rows cols (now (codes .entry)) (now (outlets .entry)) dropping row col len k p (now (found .entry)) r (now (found .exit)) ⌝ }
+    ensures { λ r. ⌜ InflowsTraced rows cols (now (codes .entry)) (now (outlets .entry)) dropping row col len k p
+        (now (found .entry)) r (now (found .exit)) ⌝ }
 {
-    let t = next_turn(rows, cols, codes, outlets, subs, row, col, k);
+    let t = next_turn(rows, cols, codes, outlets, subaccumulation, row, col, k);
     if 8 <= t.k {
         return p;
     }
     let left = t.k + 1;
-    if is_dropped(dropping, len, t.cells, p) {
+    if is_dropped(dropping, len.farthest(t.cells), p) {
         let q = drop_cells(p, t.cells);
         return trace_inflows(
             rows,
             cols,
             codes,
             outlets,
-            subs,
+            subaccumulation,
             dropping,
             row,
             col,
@@ -179,13 +187,14 @@ fn trace_inflows(
             found,
         );
     }
-    let longer = len.plus(step_from(t.k));
+    let step = t.step;
+    let longer = len.plus(step);
     let q = trace_cell(
         rows,
         cols,
         codes,
         outlets,
-        subs,
+        subaccumulation,
         dropping,
         t.row,
         t.col,
@@ -198,7 +207,7 @@ fn trace_inflows(
         cols,
         codes,
         outlets,
-        subs,
+        subaccumulation,
         dropping,
         row,
         col,
@@ -209,37 +218,34 @@ fn trace_inflows(
     )
 }
 
-// Traces all longest paths to an outlet of at most 4,096 cells, by recursion. The starts come to stand before the end of
-// the array. The outlet is visited here, and trace_cell called from one place only: the compiler then makes one frame of
-// the two functions of the cycle.
+// Traces all longest paths to an outlet of at most 4,096 cells, by recursion. The starts come to stand before the end
+// of the array. The outlet is visited here, and trace_cell called from one place only: the compiler then makes one
+// frame of the two functions of the cycle.
 pub fn trace(
     rows: usize,
     cols: usize,
     codes: &[u8],
     outlets: &[u32],
-    subs: &[u32],
+    subaccumulation: &[u32],
     dropping: bool,
     row: usize,
     col: usize,
     found: &mut [u32; 4096],
 ) -> Progress
-    requires { ⌜ Ready rows cols (now codes) (now outlets) (now subs) ⌝ }
+    requires { ⌜ Ready rows cols (now codes) (now outlets) (now subaccumulation) ⌝ }
     requires { ⌜ OnGround rows cols (now codes) row col ⌝ }
-    requires { ⌜ subaccumulation (gridOf rows cols (now codes)) (now outlets) (row * cols + col) ≤ 4096 ⌝ }
-    requires { ⌜ length (now found) ≡ 4096 ⌝ }
-    ensures { λ r. ⌜ Searched (gridOf rows cols (now (codes .entry))) (now (outlets .entry)) dropping (row * cols + col) 4096 r (now (found .exit)) × (length (now (found .exit)) ≡ 4096) ⌝ }
+    requires { ⌜ (cellsAt rows cols (now codes) (now outlets) row col ≤ 4096) × (length (now found) ≡ 4096) ⌝ }
+    ensures { λ r. ⌜ Traced rows cols (now (codes .entry)) (now (outlets .entry)) dropping row col r
+        (now (found .exit)) ⌝ }
 {
-    let none = Length {
-        straight: 0,
-        diagonal: 0,
-    };
-    let p = visit_at(cols, subs, row, col, none, begin(), found);
+    let none = Length::none();
+    let p = visit_at(cols, subaccumulation, row, col, none, begin(), found);
     trace_inflows(
         rows,
         cols,
         codes,
         outlets,
-        subs,
+        subaccumulation,
         dropping,
         row,
         col,

@@ -1,54 +1,92 @@
 -- The lines of one outlet after another.
 -- Assumes nothing.
 use mathlib.Core.Path.{_≡_, refl, sym, ap, _∙_}
-use mathlib.Core.Bool.{true}
-use mathlib.Core.List.{List, [], _∷_, _++_, append-assoc, append-nil}
-use Prim.Native.Nat.{ℕ, zero, suc, _+_, _-_, _≤_, _<_}
+use mathlib.Core.List.{List, [], _++_, append-assoc, append-nil}
+use Prim.Native.Nat.{ℕ, zero, suc, _+_, _/_, _%_}
 use native.Mathlib.Omega.{arith}
-use lib.ListN.{length, getD}
+use lib.ListN.{take, getD}
+use Rattle.answers.specs.declared.Answer.the-variants.{Found, NoPlace, Refused}
 use Rattle.answers.specs.declared.Traced.{Traced}
-use Rattle.answers.specs.Entries.{zeros}
-use Rattle.answers.specs.Tracings.{stackNumber, stackAnswer, traceLeavesSub, traceLeavesStarts}
-use Rattle.report.specs.Desk.{tracedAt, gridAt, listAt, linesOf, outletLines, outletsLines}
+use Rattle.answers.specs.Entries.{Catchment, catchment}
+use Rattle.answers.specs.Tracings.{numberOf, tracedBy, chosenTracing, Lent, lent, Traces}
+use Rattle.lines.specs.Line.{outletLine}
+use Rattle.lines.specs.Appending.{Appends}
+use Rattle.lines.proofs.Appending.{appends-both, appends-as}
+use Rattle.report.specs.Desk.{startedLent, callAt, stackNumberAt, tracedAt, leftAt, pathLines}
+use Rattle.report.specs.Desk.{answerLines, tracedLines, outletLines, outletsLines, numberAt}
 
-module _ (rows : ℕ) (codes accumulation outlets : List ℕ) where
-  -- what one tracing tells and leaves makes the lines of its outlet
-  pub outlet-is : (cols place wide at : ℕ) → wide ≡ cols → at ≡ place → {t : Traced} {grid list : List ℕ} {cell : ℕ}
-      → t ≡ stackAnswer true rows wide codes accumulation outlets at (zeros 4096) (zeros 4096) (zeros 12288)
-      → grid ≡ traceLeavesSub true rows wide codes accumulation outlets at (zeros 4096) (zeros 4096)
-      (stackNumber true rows wide codes accumulation outlets at (zeros 4096) (zeros 4096) (zeros 12288))
-      → list ≡ traceLeavesStarts true rows wide codes accumulation outlets at (zeros 4096) (zeros 4096)
-      (stackNumber true rows wide codes accumulation outlets at (zeros 4096) (zeros 4096) (zeros 12288))
-      → cell ≡ getD outlets place 0
-      → linesOf (t .answer) (t .visited) (t .dropped) cols place cell grid list
-      ≡ outletLines rows cols codes accumulation outlets place
-  unfolding outletLines tracedAt gridAt listAt
-  outlet-is cols place wide at is-wide is-at is-t is-grid is-list is-cell =
-      rw (is-t, is-grid, is-list, is-cell, is-wide, is-at)
+-- ---- one outlet
 
-  module _ (cols : ℕ) where
-    abbrev lines : ℕ → ℕ → List ℕ
-    lines place n = outletsLines rows cols codes accumulation outlets place n
+-- its lines, where its tracing found paths
+pub found-lines : (cols place cell : ℕ) (t : Traced) (left : Lent) {straight diagonal paths cells : ℕ} {starts : List ℕ}
+    → t .answer ≡ Found straight diagonal paths → cells ≡ getD (left .subaccumulation) cell 0
+    → starts ≡ take paths (left .starts)
+    → outletLine (record {
+      place = place + 1;
+      row = cell / cols;
+      col = cell % cols;
+      cells = cells;
+      straight = straight;
+      diagonal = diagonal;
+      paths = paths;
+      visited = t .visited;
+      dropped = t .dropped;
+    }) ++ pathLines cols starts ≡ tracedLines cols place cell t left
+unfolding answerLines
+found-lines cols place cell t left is-found is-cells is-starts = rw (is-found, is-cells, is-starts)
 
-    abbrev line : ℕ → List ℕ
-    line place = outletLines rows cols codes accumulation outlets place
+-- and where it did not
+pub no-place-lines : (cols place cell : ℕ) (t : Traced) (left : Lent) {paths : ℕ} → t .answer ≡ NoPlace paths
+    → [] ≡ tracedLines cols place cell t left
+unfolding answerLines
+no-place-lines cols place cell t left e = rw e
 
-    -- one outlet more
-    grown : (place n : ℕ) → lines place n ++ line (place + n) ≡ lines place (suc n)
-    unfolding outletsLines
-    grown place zero =
-        let e : place + 0 ≡ place = omega arith in ap line e ∙ sym (append-nil (line place))
-    grown place (suc n) =
-        let e : place + suc n ≡ place + 1 + n = omega arith in
-        append-assoc (line place) (lines (place + 1) n) (line (place + suc n))
-        ∙ ap (λ (l : List ℕ). line place ++ l) (ap (λ (m : ℕ). lines (place + 1) n ++ line m) e ∙ grown (place + 1) n)
+pub refused-lines : (cols place cell : ℕ) (t : Traced) (left : Lent) {number : ℕ} → t .answer ≡ Refused number
+    → [] ≡ tracedLines cols place cell t left
+unfolding answerLines
+refused-lines cols place cell t left e = rw e
 
-    pub one-outlet-more : (n : ℕ) → lines 0 n ++ line n ≡ lines 0 (n + 1)
-    one-outlet-more n =
-        let e : n + 1 ≡ suc n = omega arith in
-        let z : 0 + n ≡ n = omega arith in
-        sym (ap (λ (m : ℕ). lines 0 n ++ line m) z) ∙ grown 0 n ∙ sym (ap (lines 0) e)
+-- what tracing answers has the number of the outlet
+pub number-is : (c : Catchment) (place : ℕ) {t : Traced}
+    → t ≡ tracedBy (stackNumberAt c place) (chosenTracing (callAt c place)) → numberOf (t .answer) ≡ numberAt c place
+unfolding numberAt tracedAt
+number-is c place e = ap (λ (t : Traced). numberOf (t .answer)) e
 
-    pub no-outlets : lines 0 0 ≡ []
-    unfolding outletsLines
-    no-outlets = refl
+-- and with what it leaves makes the outlet's lines
+pub outlet-is : (rows cols place : ℕ) (codes accumulation outlets : List ℕ) {wide at cell : ℕ} {t : Traced}
+    {subaccumulation starts : List ℕ} → wide ≡ cols → at ≡ place → cell ≡ getD outlets place 0
+    → Traces (callAt (catchment rows wide codes accumulation outlets) at) startedLent
+    (stackNumberAt (catchment rows wide codes accumulation outlets) at) t (lent subaccumulation starts)
+    → tracedLines cols place cell t (lent subaccumulation starts)
+    ≡ outletLines (catchment rows cols codes accumulation outlets) place
+unfolding outletLines tracedAt leftAt
+outlet-is rows cols place codes accumulation outlets is-wide is-at is-cell traces =
+    rw (traces .answers, traces .fills, traces .lists, is-wide, is-at, is-cell)
+
+-- ---- one after another
+
+module _ (c : Catchment) where
+  grown : (place n : ℕ) → outletsLines c place n ++ outletLines c (place + n) ≡ outletsLines c place (suc n)
+  unfolding outletsLines
+  grown place zero =
+      let e : place + 0 ≡ place = omega arith in
+      ap (outletLines c) e ∙ sym (append-nil (outletLines c place))
+  grown place (suc n) =
+      let e : place + suc n ≡ place + 1 + n = omega arith in
+      append-assoc (outletLines c place) (outletsLines c (place + 1) n) (outletLines c (place + suc n))
+      ∙ ap (λ (l : List ℕ). outletLines c place ++ l)
+      (ap (λ (m : ℕ). outletsLines c (place + 1) n ++ outletLines c m) e ∙ grown (place + 1) n)
+
+  one-more : (n : ℕ) → outletsLines c 0 n ++ outletLines c n ≡ outletsLines c 0 (n + 1)
+  one-more n =
+      let e : n + 1 ≡ suc n = omega arith in
+      let z : 0 + n ≡ n = omega arith in
+      sym (ap (λ (m : ℕ). outletsLines c 0 n ++ outletLines c m) z) ∙ grown 0 n ∙ sym (ap (outletsLines c 0) e)
+
+  pub next-outlet : (n : ℕ) {at m r : ℕ} {old mid new : List ℕ} → Appends (outletsLines c 0 n) at old m mid
+      → Appends (outletLines c n) m mid r new → Appends (outletsLines c 0 (n + 1)) at old r new
+  next-outlet n before this = appends-as (one-more n) (appends-both before this)
+
+  pub no-outlets : outletsLines c 0 0 ≡ []
+  unfolding outletsLines
+  no-outlets = refl

@@ -2,21 +2,29 @@
 use accumulation::accumulate;
 use answers::Answer;
 use answers::Traced;
-use ground::index_of;
+use lines::OutletLine;
 use lines::put_catchment;
 use lines::put_outlet;
 use lines::put_path;
 use lines::put_refused;
-use sheets::read;
+use lists::index_of;
+use lists::least;
+use reading::read;
+use spelling::Sheet;
+use stack::NUMBERS_EACH;
 use tracing::trace_by_stack;
 ghost use mathlib.Core.Path.{_≡_};
-ghost use Prim.Native.Nat.{_/_, _%_, _≤_, _<_};
+ghost use Prim.Native.Nat.{_≤_, _<_};
 ghost use lib.ListN.{length, take, getD};
-ghost use Rattle.answers.specs.Tracings.{numberOf};
-ghost use Rattle.lines.specs.Line.{pathLine};
+ghost use Rattle.answers.specs.Entries.{catchment};
+ghost use Rattle.answers.specs.Tracings.{numberOf, lent};
 ghost use Rattle.lines.specs.Appending.{Appends, Holds};
-ghost use Rattle.report.specs.Desk.{numberAt, numbersFrom, firstNumber, pathLines, linesOf, outletLines, outletsLines};
-ghost use Rattle.report.specs.Desk.{tracingNumber, sheetText, deskText};
+ghost use Rattle.spelling.specs.Content.{content};
+ghost use Rattle.report.specs.Desk.{numberAt, numbersFrom, firstNumber, pathLines, tracedLines};
+ghost use Rattle.report.specs.Desk.{outletLines, outletsLines, tracingNumber, sheetText, deskText};
+
+// The numbers of working space, enough for a subwatershed of 4,096 cells.
+const WORKING: usize = NUMBERS_EACH * 4096;
 
 // The number of each kind of answer.
 fn number_of(answer: Answer) -> u32
@@ -42,11 +50,12 @@ fn number_at(
     outlets: &[u32],
     place: usize,
 ) -> u32
-    ensures { λ r. ⌜ r ≡ numberAt rows cols (now (codes .entry)) (now (accumulation .entry)) (now (outlets .entry)) place ⌝ }
+    ensures { λ r. ⌜ r ≡ numberAt
+        (catchment rows cols (now (codes .entry)) (now (accumulation .entry)) (now (outlets .entry))) place ⌝ }
 {
-    let mut grid = [0u32; 4096];
-    let mut list = [0u32; 4096];
-    let mut work = [0u32; 12288];
+    let mut subaccumulation = [0u32; 4096];
+    let mut starts = [0u32; 4096];
+    let mut work = [0u32; WORKING];
     let t = trace_by_stack(
         rows,
         cols,
@@ -55,8 +64,8 @@ fn number_at(
         outlets,
         place,
         true,
-        &mut grid,
-        &mut list,
+        &mut subaccumulation,
+        &mut starts,
         &mut work,
     );
     let answer = t.answer;
@@ -71,7 +80,9 @@ fn first_refusal(
     accumulation: &[u32],
     outlets: &[u32],
 ) -> u32
-    ensures { λ r. ⌜ r ≡ firstNumber (numbersFrom rows cols (now (codes .entry)) (now (accumulation .entry)) (now (outlets .entry)) 0 (length (now (outlets .entry)))) ⌝ }
+    ensures { λ r. ⌜ r ≡ firstNumber (numbersFrom
+        (catchment rows cols (now (codes .entry)) (now (accumulation .entry)) (now (outlets .entry)))
+        0 (length (now (outlets .entry)))) ⌝ }
 {
     let mut place: usize = 0;
     while place < outlets.len() {
@@ -84,65 +95,74 @@ fn first_refusal(
     0
 }
 
-// The line of a start.
-fn put_start(text: &mut [u8], at: usize, cols: u32, start: u32) -> usize
-    requires { ⌜ 0 < cols ⌝ }
-    ensures { λ r. ⌜ Appends (pathLine (start / cols) (start % cols)) at (now (text .entry)) r (now (text .exit)) ⌝ }
+// The first refusal of a tracing. The first place is asked for even where there is none.
+fn tracing_number(
+    rows: usize,
+    cols: usize,
+    codes: &[u8],
+    accumulation: &[u32],
+    outlets: &[u32],
+) -> u32
+    ensures { λ r. ⌜ r ≡ tracingNumber
+        (catchment rows cols (now (codes .entry)) (now (accumulation .entry)) (now (outlets .entry))) ⌝ }
 {
-    put_path(text, at, start / cols, start % cols)
+    let number = number_at(rows, cols, codes, accumulation, outlets, 0);
+    if number != 0 {
+        return number;
+    }
+    first_refusal(rows, cols, codes, accumulation, outlets)
 }
 
-// The lines of the starts of a list.
-fn put_starts(text: &mut [u8], at: usize, cols: u32, list: &[u32]) -> usize
-    requires { ⌜ 0 < cols ⌝ }
-    ensures { λ r. ⌜ Appends (pathLines cols (now (list .entry))) at (now (text .entry)) r (now (text .exit)) ⌝ }
+// The first n places of a list, or all of them where there are fewer.
+fn first_of<'a>(list: &'a [u32], n: u32) -> &'a [u32]
+    ensures { λ r. ⌜ now r ≡ take n (now (list .entry)) ⌝ }
 {
-    let mut to = at;
-    let mut k: usize = 0;
-    while k < list.len() {
-        to = put_start(text, to, cols, list[k]);
-        k += 1;
-    }
-    to
-}
-
-// How many of the first places of a list are meant.
-fn places_of(list: &[u32], paths: u32) -> usize
-    ensures { λ r. ⌜ (r ≤ length (now (list .entry))) × (r ≡ length (take r (now (list .entry)))) × (take r (now (list .entry)) ≡ take paths (now (list .entry))) ⌝ }
-{
-    let n = index_of(paths);
-    if list.len() < n {
-        return list.len();
-    }
-    n
+    let k = least(index_of(n), list.len());
+    &list[..k]
 }
 
 // The number at a place of a list, and 0 beyond it.
-fn value_at(list: &[u32], i: usize) -> u32
-    ensures { λ r. ⌜ r ≡ getD (now (list .entry)) i 0 ⌝ }
+fn value_at(list: &[u32], place: u32) -> u32
+    ensures { λ r. ⌜ r ≡ getD (now (list .entry)) place 0 ⌝ }
 {
+    let i = index_of(place);
     if i < list.len() {
         return list[i];
     }
     0
 }
 
+// A line for each start, by its row and column.
+fn put_starts(text: &mut [u8], at: usize, cols: u32, starts: &[u32]) -> usize
+    requires { ⌜ 0 < cols ⌝ }
+    ensures { λ r. ⌜ Appends (pathLines cols (now (starts .entry))) at (now (text .entry)) r (now (text .exit)) ⌝ }
+{
+    let mut to = at;
+    let mut k: usize = 0;
+    while k < starts.len() {
+        let start = starts[k];
+        to = put_path(text, to, start / cols, start % cols);
+        k += 1;
+    }
+    to
+}
+
 // The lines of an outlet that was traced: its own and one for each start.
-fn tell(
+fn put_traced(
     text: &mut [u8],
     at: usize,
     cols: u32,
     place: u32,
     cell: u32,
-    grid: &[u32],
-    list: &[u32],
     t: Traced,
+    subaccumulation: &[u32],
+    starts: &[u32],
 ) -> usize
     requires { ⌜ (0 < cols) × (place < 256) ⌝ }
-    ensures { λ r. ⌜ Appends (linesOf (t .answer) (t .visited) (t .dropped) cols place cell (now (grid .entry)) (now (list .entry))) at (now (text .entry)) r (now (text .exit)) ⌝ }
+    ensures { λ r. ⌜ Appends
+        (tracedLines cols place cell t (lent (now (subaccumulation .entry)) (now (starts .entry))))
+        at (now (text .entry)) r (now (text .exit)) ⌝ }
 {
-    let visited = t.visited;
-    let dropped = t.dropped;
     let answer = t.answer;
     match answer {
         Answer::Found {
@@ -150,22 +170,22 @@ fn tell(
             diagonal,
             paths,
         } => {
-            let cells = value_at(grid, index_of(cell));
-            let to = put_outlet(
-                text,
-                at,
-                place + 1,
-                cell / cols,
-                cell % cols,
-                cells,
+            let printed = place + 1;
+            let row = cell / cols;
+            let col = cell % cols;
+            let line = OutletLine {
+                place: printed,
+                row,
+                col,
+                cells: value_at(subaccumulation, cell),
                 straight,
                 diagonal,
                 paths,
-                visited,
-                dropped,
-            );
-            let n = places_of(list, paths);
-            put_starts(text, to, cols, &list[..n])
+                visited: t.visited,
+                dropped: t.dropped,
+            };
+            let to = put_outlet(text, at, line);
+            put_starts(text, to, cols, first_of(starts, paths))
         }
         Answer::NoPlace { paths: _ } => at,
         Answer::Refused { number: _ } => at,
@@ -184,11 +204,13 @@ fn put_outlet_at(
     place: u32,
 ) -> usize
     requires { ⌜ (0 < cols) × (place < 256) ⌝ }
-    ensures { λ r. ⌜ Appends (outletLines rows cols (now (codes .entry)) (now (accumulation .entry)) (now (outlets .entry)) place) at (now (text .entry)) r (now (text .exit)) ⌝ }
+    ensures { λ r. ⌜ Appends (outletLines
+        (catchment rows cols (now (codes .entry)) (now (accumulation .entry)) (now (outlets .entry))) place)
+        at (now (text .entry)) r (now (text .exit)) ⌝ }
 {
-    let mut grid = [0u32; 4096];
-    let mut list = [0u32; 4096];
-    let mut work = [0u32; 12288];
+    let mut subaccumulation = [0u32; 4096];
+    let mut starts = [0u32; 4096];
+    let mut work = [0u32; WORKING];
     let t = trace_by_stack(
         rows,
         index_of(cols),
@@ -197,12 +219,12 @@ fn put_outlet_at(
         outlets,
         index_of(place),
         true,
-        &mut grid,
-        &mut list,
+        &mut subaccumulation,
+        &mut starts,
         &mut work,
     );
-    let cell = value_at(outlets, index_of(place));
-    tell(text, at, cols, place, cell, &grid, &list, t)
+    let cell = value_at(outlets, place);
+    put_traced(text, at, cols, place, cell, t, &subaccumulation, &starts)
 }
 
 // The lines of all outlets.
@@ -216,7 +238,9 @@ fn put_outlets(
     outlets: &[u32],
 ) -> usize
     requires { ⌜ (0 < cols) × (length (now outlets) ≤ 256) ⌝ }
-    ensures { λ r. ⌜ Appends (outletsLines rows cols (now (codes .entry)) (now (accumulation .entry)) (now (outlets .entry)) 0 (length (now (outlets .entry)))) at (now (text .entry)) r (now (text .exit)) ⌝ }
+    ensures { λ r. ⌜ Appends (outletsLines
+        (catchment rows cols (now (codes .entry)) (now (accumulation .entry)) (now (outlets .entry)))
+        0 (length (now (outlets .entry)))) at (now (text .entry)) r (now (text .exit)) ⌝ }
 {
     let mut to = at;
     let mut place: u32 = 0;
@@ -227,60 +251,26 @@ fn put_outlets(
     to
 }
 
-// The first refusal of a tracing. The first place is asked for even where there is none.
-fn tracing_number(
-    rows: usize,
-    cols: usize,
-    codes: &[u8],
-    accumulation: &[u32],
-    outlets: &[u32],
-) -> u32
-    ensures { λ r. ⌜ r ≡ tracingNumber rows cols (now (codes .entry)) (now (accumulation .entry)) (now (outlets .entry)) ⌝ }
+// What is said of a sheet that was read.
+fn report_sheet(text: &mut [u8], sheet: Sheet, codes: &[u8], outlets: &[u32]) -> usize
+    requires { ⌜ (0 < sheet .cols) × (length (now outlets) ≤ 256) ⌝ }
+    ensures { λ r. ⌜ Appends
+        (sheetText (content (sheet .rows) (sheet .cols) (now (codes .entry)) (now (outlets .entry))) (sheet .outlets))
+        0 (now (text .entry)) r (now (text .exit)) ⌝ }
 {
-    let number = number_at(rows, cols, codes, accumulation, outlets, 0);
-    if number != 0 {
-        return number;
-    }
-    first_refusal(rows, cols, codes, accumulation, outlets)
-}
-
-// What is told of a sheet.
-fn report_sheet(
-    text: &mut [u8],
-    rows: u32,
-    cols: u32,
-    count: u32,
-    codes: &[u8],
-    outlets: &[u32],
-) -> usize
-    requires { ⌜ (0 < cols) × (length (now outlets) ≤ 256) ⌝ }
-    ensures { λ r. ⌜ Appends (sheetText rows cols count (now (codes .entry)) (now (outlets .entry))) 0 (now (text .entry)) r (now (text .exit)) ⌝ }
-{
+    let rows = index_of(sheet.rows);
+    let cols = index_of(sheet.cols);
     let mut accumulation = [0u32; 4096];
-    let ring = accumulate(index_of(rows), index_of(cols), codes, &mut accumulation);
+    let ring = accumulate(rows, cols, codes, &mut accumulation);
     if ring != 0 {
         return put_refused(text, 0, ring);
     }
-    let number = tracing_number(
-        index_of(rows),
-        index_of(cols),
-        codes,
-        &accumulation,
-        outlets,
-    );
+    let number = tracing_number(rows, cols, codes, &accumulation, outlets);
     if number != 0 {
         return put_refused(text, 0, number);
     }
-    let at = put_catchment(text, 0, rows, cols, count);
-    put_outlets(
-        text,
-        at,
-        index_of(rows),
-        cols,
-        codes,
-        &accumulation,
-        outlets,
-    )
+    let at = put_catchment(text, 0, sheet.rows, sheet.cols, sheet.outlets);
+    put_outlets(text, at, rows, sheet.cols, codes, &accumulation, outlets)
 }
 
 // What the desk prints for a file, put into lent bytes, as much of it as there is room for; how much is handed back.
@@ -288,19 +278,10 @@ pub fn report(file: &[u8], text: &mut [u8]) -> usize
     ensures { λ r. ⌜ Holds (deskText (now (file .entry))) (now (text .entry)) r (now (text .exit)) ⌝ }
 {
     let mut codes = [0u8; 4096];
-    let mut list = [0u32; 256];
-    let sheet = read(file, &mut codes, &mut list);
-    let number = sheet.number;
-    if number != 0 {
-        return put_refused(text, 0, number);
+    let mut outlets = [0u32; 256];
+    let sheet = read(file, &mut codes, &mut outlets);
+    if sheet.number != 0 {
+        return put_refused(text, 0, sheet.number);
     }
-    let count = places_of(&list, sheet.outlets);
-    report_sheet(
-        text,
-        sheet.rows,
-        sheet.cols,
-        sheet.outlets,
-        &codes,
-        &list[..count],
-    )
+    report_sheet(text, sheet, &codes, first_of(&outlets, sheet.outlets))
 }

@@ -1,36 +1,35 @@
 -- DEMAND 3 is proved: of the search with and without dropping, and from pending cells.
 -- Assumes nothing.
-use mathlib.Core.Path.{_≡_, refl, sym, ap, ap₂, _∙_, subst}
+use mathlib.Core.Path.{_≡_, refl, sym, ap, _∙_, subst}
 use mathlib.Core.Bool.{Bool, true, false}
-use mathlib.Core.Logic.{_⊎_, inl, inr, _↔_}
-use mathlib.Core.List.{List, [], _∷_, _++_, map}
-use mathlib.Core.Option.{Option, none, some}
-use Prim.Native.Nat.{ℕ, zero, suc, _+_, _≤_, _<_}
+use mathlib.Core.Logic.{inl, inr, _↔_}
+use mathlib.Core.List.{List, [], _∷_, map}
+use mathlib.Core.Option.{some}
+use Prim.Native.Nat.{ℕ, _+_, _<_}
 use native.Mathlib.Omega.{arith}
-use lib.ListN.{length, getD, length-map}
+use lib.ListN.{length, length-map}
 use Rattle.lengths.specs.declared.Length.{Length}
 use Rattle.lengths.specs.Rule.{counts, isShorter}
 use Rattle.lengths.proofs.Laws.{square-same}
-use Rattle.ground.specs.Lists.{In, Sorted, only, member, howMany}
-use Rattle.ground.specs.Compass.{Dir, squares}
-use Rattle.ground.specs.Grid.{Grid, places, ground, next, inflows}
+use Rattle.lists.specs.Lists.{In, Sorted, only, member, howMany}
+use Rattle.ground.specs.Compass.{squares}
+use Rattle.ground.specs.Grid.{Grid, cellCount, ground, next, inflows}
 use Rattle.ground.specs.Walk.{At}
-use Rattle.ground.specs.Accumulation.{agrees, subaccumulation}
+use Rattle.ground.specs.Accumulation.{agrees}
 use Rattle.ground.specs.Subwatershed.{firstOutlet, isOutlet, InSubwatershed, inSubwatershed, HasLength, Before, Longest}
 use Rattle.ground.specs.Forest.{forest, everyCell, cellsFrom}
-use Rattle.ground.proofs.Lists.{every-in, every-is, sorted-with, sorted-over, same-sorted, in-only, only-in}
+use Rattle.lists.proofs.Lists.{every-in, every-is, sorted-with, sorted-over, same-sorted, in-only, only-in}
 use Rattle.ground.proofs.Walks.{after-zero}
 use Rattle.ground.proofs.Network.{first-listed, cells-first}
 use Rattle.ground.proofs.Subwatersheds.{first-meets, true-belongs}
 use Rattle.ground.proofs.GridNetwork.{inflows-rise}
 use Rattle.ground.proofs.Ground.{𝓝, squares-laws, inside-test, sub-cells, sub-size, length-first}
-use Rattle.search.specs.Search.{headwater, longest, State, Rule, firstRule, searchFrom}
-use Rattle.search.specs.Tracing.{Tracing, firstLength, told, tracingBy, tracing, pendingTracing}
+use Rattle.search.specs.Search.{longest, Rule, firstRule, searchFrom}
+use Rattle.search.specs.Tracing.{firstLength, tracingBy, tracing}
 use Rattle.search.specs.Demand.{anyCell, Demand3}
 use Rattle.search.proofs.Meeting.{longest-is, is-longest}
 use Rattle.search.proofs.Dropping.{search-all, none-dropped}
 use Rattle.search.proofs.Headwaters.{search-all-longest, longest-some}
-use Rattle.search.proofs.Waiting.{drain-from}
 use Rattle.search.proofs.Ordered.{parts-asym, longest-sorted}
 
 -- lists
@@ -74,22 +73,23 @@ module _ (g : Grid) (a : List ℕ) (h : agrees g a ≡ true) (outlets : List ℕ
 
   -- the walk from a cell comes to o first, with this length
   Reaches : At Length → Type 0
-  Reaches b = firstOutlet squares (next g) (isOutlet g outlets) (places g) (b .cell)
+  Reaches b = firstOutlet squares (next g) (isOutlet g outlets) (cellCount g) (b .cell)
       ≡ some (record { cell = o; len = b .len })
 
   reached : (b : At Length) → In b cells → Reaches b
   unfolding Reaches forest
   reached b i = every-in Reaches b cells (cells-first squares (next g) (isOutlet g outlets) (inflows g) (ground g)
-      (places g) (𝓝 g) (places g) o listed) i
+      (cellCount g) (𝓝 g) (cellCount g) o listed) i
 
   reaches : (b : At Length) → Reaches b → In b cells
   unfolding Reaches forest
-  reaches b r = first-listed squares (next g) (isOutlet g outlets) (inflows g) (ground g) (places g) (𝓝 g) (places g)
+  reaches b r = first-listed squares (next g) (isOutlet g outlets) (inflows g) (ground g) (cellCount g) (𝓝 g)
+      (cellCount g)
       (b .cell) (record { cell = o; len = b .len }) r
 
   reaches-inside : (b : At Length) → Reaches b → InSubwatershed g outlets o (b .cell)
   unfolding Reaches
-  reaches-inside b r = first-meets squares (next g) (isOutlet g outlets) (places g) (b .cell)
+  reaches-inside b r = first-meets squares (next g) (isOutlet g outlets) (cellCount g) (b .cell)
       (record { cell = o; len = b .len }) r
 
   reaches-length : (b : At Length) → HasLength g outlets o (b .cell) (b .len) ↔ Reaches b
@@ -97,7 +97,8 @@ module _ (g : Grid) (a : List ℕ) (h : agrees g a ≡ true) (outlets : List ℕ
   reaches-length b = length-first g a h outlets o listed v (b .cell) (b .len)
 
   -- a list of the longest of the cells that may start
-  module _ (may : ℕ → Bool) (xs : List (At Length)) (lists : xs ≡ longest squares (only (λ x. may (x .cell)) cells)) where
+  module _ (may : ℕ → Bool) (xs : List (At Length))
+      (lists : xs ≡ longest squares (only (λ x. may (x .cell)) cells)) where
     abbrev starts : List ℕ
     starts = map (λ x. x .cell) xs
 
@@ -148,15 +149,16 @@ module _ (g : Grid) (a : List ℕ) (h : agrees g a ≡ true) (outlets : List ℕ
     unfolding forest
     ordered = sorted-over (λ x. x .cell) (Before g outlets) xs
         (subst (Sorted (λ x y. Before g outlets (x .cell) (y .cell))) (sym lists)
-        (longest-sorted squares squares-laws (next g) (isOutlet g outlets) (inflows g) (ground g) (places g) (𝓝 g)
-        (inflows-rise g) may (places g) o listed))
+        (longest-sorted squares squares-laws (next g) (isOutlet g outlets) (inflows g) (ground g) (cellCount g) (𝓝 g)
+        (inflows-rise g) may (cellCount g) o listed))
 
     once : Sorted (λ x y. x ≡ y → ⊥) starts
     once = sorted-with (Before g outlets) (λ x y. x ≡ y → ⊥) (λ x. ℕ)
         (λ x y p q b e. let b′ = subst (Before g outlets x) (sym e) b in parts-asym _ _ b′ b′) starts
         (every-is (λ x. ℕ) starts (λ x i. x)) ordered
 
-    unique : (ys : List ℕ) → ((c : ℕ) → In c ys ↔ Longest g outlets may o c) → Sorted (Before g outlets) ys → ys ≡ starts
+    unique : (ys : List ℕ) → ((c : ℕ) → In c ys ↔ Longest g outlets may o c) → Sorted (Before g outlets) ys
+        → ys ≡ starts
     unique ys f s = same-sorted (Before g outlets) (λ x y. parts-asym _ _) ys starts s ordered
         (λ c i. exact c .1 (f c .0 i)) (λ c i. f c .1 (exact c .0 i))
 
@@ -179,7 +181,7 @@ module _ (g : Grid) (a : List ℕ) (h : agrees g a ≡ true) (outlets : List ℕ
     some-start : (c : ℕ) → InSubwatershed g outlets o c → may c ≡ true → 0 < length xs
     unfolding Reaches inSubwatershed
     some-start c i m =
-        let r = true-belongs squares (next g) (isOutlet g outlets) (places g) o c
+        let r = true-belongs squares (next g) (isOutlet g outlets) (cellCount g) o c
         (inside-test g a h outlets o listed v c .0 i) in
         subst (λ (l : List (At Length)). 0 < length l) (sym lists)
         (longest-length (only (λ x. may (x .cell)) cells)
@@ -188,14 +190,15 @@ module _ (g : Grid) (a : List ℕ) (h : agrees g a ≡ true) (outlets : List ℕ
 
   -- every cell is visited or dropped
   counted : (rule : Rule squares) → (tracingBy rule g outlets o) .visited + (tracingBy rule g outlets o) .dropped
-      ≡ howMany (inSubwatershed g outlets o) (places g)
+      ≡ howMany (inSubwatershed g outlets o) (cellCount g)
   unfolding tracingBy
   counted rule = search-all squares rule o (forest g outlets o) ∙ sym (sub-size g a h outlets o v)
       ∙ sym (sub-cells g a h outlets o listed v)
 
   -- THE DEMAND, of a search by two rules that list the longest of the cells that may start, the second without dropping
   module _ (may : ℕ → Bool) (rule plain : Rule squares) (off : plain .dropping ≡ false)
-      (lists : (searchFrom squares rule o (forest g outlets o)) .starts ≡ longest squares (only (λ x. may (x .cell)) cells))
+      (lists : (searchFrom squares rule o (forest g outlets o)) .starts
+      ≡ longest squares (only (λ x. may (x .cell)) cells))
       (plain-lists : (searchFrom squares plain o (forest g outlets o)) .starts ≡ longest squares
       (only (λ x. may (x .cell)) cells))
       (c : ℕ) (inside : InSubwatershed g outlets o c) (starts-there : may c ≡ true) where
@@ -237,15 +240,7 @@ module _ (g : Grid) (a : List ℕ) (h : agrees g a ≡ true) (outlets : List ℕ
       ∙ ap (longest squares) (sym (only-all cells))
 
   -- THE THEOREM: with and without dropping
-  pub demand3 : (dropping : Bool) → Demand3 g outlets anyCell o (tracing dropping g outlets o) (tracing false g outlets o)
+  pub demand3 : (dropping : Bool) → Demand3 g outlets anyCell o (tracing dropping g outlets o)
+      (tracing false g outlets o)
   demand3 dropping = demand anyCell (firstRule squares dropping) (firstRule squares false) refl (first-lists dropping)
       (first-lists false) o outlet-inside refl
-
-  -- and from pending cells, which tell the same
-  pub pending-same : (dropping : Bool) → pendingTracing dropping g outlets o ≡ tracing dropping g outlets o
-  unfolding pendingTracing tracingBy
-  pending-same dropping = ap told (drain-from squares (firstRule squares dropping) o (forest g outlets o))
-
-  pub demand3-pending : (dropping : Bool) → Demand3 g outlets anyCell o (pendingTracing dropping g outlets o)
-      (pendingTracing false g outlets o)
-  demand3-pending dropping = rw (pending-same dropping, pending-same false) (demand3 dropping)

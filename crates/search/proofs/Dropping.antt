@@ -2,31 +2,20 @@
 -- Assumes nothing.
 use mathlib.Core.Path.{_≡_, refl, sym, ap, _∙_}
 use mathlib.Core.Bool.{Bool, true, false, _&&_, true≢false}
-use mathlib.Core.List.{List, [], _∷_, _++_}
+use mathlib.Core.List.{List, [], _∷_}
 use Prim.Native.Nat.{ℕ, zero, suc, _+_, _≤_}
 use native.Mathlib.Omega.{arith}
 use Rattle.lengths.specs.Lengths.{Lengths}
 use Rattle.lengths.proofs.Laws.{LengthLaws}
-use Rattle.ground.specs.Lists.{Every, keepIf}
+use Rattle.lists.specs.Lists.{Every, keepIf}
 use Rattle.ground.specs.Walk.{At}
 use Rattle.ground.specs.Forest.{Forest, bare, tree, size, Which, cellsAbove, cellsFrom}
-use Rattle.ground.proofs.Lists.{every-append, every-map, every-keep, keep-append}
-use Rattle.search.specs.Search.{
-  longest,
-  State,
-  fresh,
-  meetIf,
-  belowGreatest,
-  farthest,
-  Rule,
-  firstRule,
-  drops,
-  dropCells,
-  visit,
-  searchAbove,
-  searchFrom,
-}
-use Rattle.search.proofs.Meeting.{AtMost, meets, meets-append, meets-keep, irrefl, le-lt, meets-longest, meets-vain}
+use Rattle.lists.proofs.Lists.{every-append, every-map, every-keep, keep-append}
+use Rattle.search.specs.Search.{longest, State, fresh, meetIf, belowGreatest, Rule, firstRule, drops, dropCells}
+use Rattle.search.specs.Search.{visit, searchAbove, searchFrom}
+use Rattle.lengths.specs.Lengths.{farthest}
+use Rattle.search.proofs.Meeting.{AtMost, meets, meets-append, meets-keep, irrefl, le-lt, meets-longest}
+use Rattle.search.proofs.Meeting.{meets-vain}
 
 and-right : (a b : Bool) → (a && b) ≡ true → b ≡ true
 and-right true b h = h
@@ -117,10 +106,12 @@ module _ {S : Type 0} (𝓛 : Lengths S) (laws : LengthLaws 𝓛) where
         (λ x i. le-lt 𝓛 laws (x .len) (rule .limit d s (suc (size above))) (g .len)
         (trans (x .len) (farthest 𝓛 (d ▹ s) (size above)) (rule .limit d s (suc (size above))) i
         (covers d s (size above))) h)
-        (valley 𝓛 (rule .meets) d c s above) (valley-within (rule .meets) d c s above (within (rule .meets) (d ▹ s) above)))
+        (valley 𝓛 (rule .meets) d c s above)
+        (valley-within (rule .meets) d c s above (within (rule .meets) (d ▹ s) above)))
 
     -- the search has met the lengths of all the cells that count, whatever it dropped
-    pub search-meets : (d : Len) (st : State 𝓛) (f : Forest S) → (searchAbove 𝓛 rule d st f) .starts ≡ meets 𝓛 (st .starts)
+    pub search-meets : (d : Len) (st : State 𝓛) (f : Forest S)
+        → (searchAbove 𝓛 rule d st f) .starts ≡ meets 𝓛 (st .starts)
         (cellsAbove 𝓛 (rule .meets) d f)
     unfolding meets
     search-meets d st bare = refl
@@ -155,7 +146,8 @@ module _ {S : Type 0} (𝓛 : Lengths S) (laws : LengthLaws 𝓛) where
     unfolding meets
     search-longest o above =
         search-meets start (visit 𝓛 rule (fresh 𝓛) o start above) above
-        ∙ meets-keep 𝓛 (rule .meets o above) [] (record { cell = o; len = start }) (cellsAbove 𝓛 (rule .meets) start above)
+        ∙ meets-keep 𝓛 (rule .meets o above) [] (record { cell = o; len = start })
+        (cellsAbove 𝓛 (rule .meets) start above)
         ∙ meets-longest 𝓛 laws (cellsFrom 𝓛 (rule .meets) o above)
 
 module _ {S : Type 0} (𝓛 : Lengths S) (rule : Rule 𝓛) where
@@ -175,7 +167,8 @@ module _ {S : Type 0} (𝓛 : Lengths S) (rule : Rule 𝓛) where
           → (searchAbove 𝓛 rule (d ▹ s) (visit 𝓛 rule st c (d ▹ s) above) above) .visited +
           (searchAbove 𝓛 rule (d ▹ s) (visit 𝓛 rule st c (d ▹ s) above) above) .dropped
           ≡ st .visited + 1 + st .dropped + size above
-          → (searchAbove 𝓛 rule d st (tree c s above rest)) .visited + (searchAbove 𝓛 rule d st (tree c s above rest)) .dropped
+          → (searchAbove 𝓛 rule d st (tree c s above rest)) .visited +
+          (searchAbove 𝓛 rule d st (tree c s above rest)) .dropped
           ≡ st .visited + st .dropped + size (tree c s above rest)
       go true e ihr iha = rw (search-dropped 𝓛 rule d st c s above rest e)
           (omega (arith, ihr (dropCells 𝓛 st (suc (size above)))))

@@ -2,17 +2,16 @@
 -- subaccumulation 1, and a route leads from neighbour to neighbour up to its cell.
 -- Assumes nothing.
 use mathlib.Core.Path.{_≡_, refl, sym, ap, _∙_}
-use mathlib.Core.Bool.{Bool, true, false}
-use mathlib.Core.Logic.{_↔_}
+use mathlib.Core.Bool.{true}
 use mathlib.Core.List.{List, [], _∷_, _++_}
 use mathlib.Core.Option.{Option, none, some}
-use Prim.Native.Nat.{ℕ, zero, suc, _+_}
+use Prim.Native.Nat.{ℕ, suc}
 use native.Mathlib.Omega.{arith}
 use lib.ListN.{getD}
 use Rattle.lengths.specs.declared.Length.{Length}
-use Rattle.ground.specs.Lists.{member}
+use Rattle.lists.specs.Lists.{member}
 use Rattle.ground.specs.Compass.{Dir, opposite, squares}
-use Rattle.ground.specs.Grid.{Grid, places, ground, neighbour, next, inflows}
+use Rattle.ground.specs.Grid.{Grid, cellCount, ground, neighbour, next, inflows}
 use Rattle.ground.specs.Walk.{At}
 use Rattle.ground.specs.Accumulation.{agrees, subaccumulation, isHeadwater}
 use Rattle.ground.specs.Subwatershed.{firstOutlet, route, isOutlet, HasLength}
@@ -23,7 +22,6 @@ use Rattle.ground.proofs.Agreement.{AllTrees, forest-trees}
 use Rattle.ground.proofs.GridNetwork.{next-back}
 use Rattle.ground.proofs.Ground.{𝓝, lent, sub-size, length-first}
 use Rattle.search.specs.Search.{headwater}
-use lib.Dec.{eqb}
 use borrow.Author.Tests.{eq-eqb, ne-eqb}
 
 -- from a cell to the neighbours in these directions, one after the other
@@ -50,13 +48,14 @@ trees-map P Q k (tree c s above rest) h = (k c above (h .0), trees-map P Q k abo
 module _ (g : Grid) (a : List ℕ) (h : agrees g a ≡ true) (outlets : List ℕ) where
   -- in the search, what lies above a cell is its forest, and its n is its subaccumulation
   pub tree-sub : (x : ℕ) → ground g x ≡ true
-      → AllTrees (λ c up. (up ≡ forest g outlets c) × (suc (size up) ≡ subaccumulation g outlets c)) (forest g outlets x)
+      → AllTrees (λ c up. (up ≡ forest g outlets c) × (suc (size up) ≡ subaccumulation g outlets c))
+      (forest g outlets x)
   unfolding forest
   tree-sub x v = trees-map
-      (λ c up. (ground g c ≡ true) × (up ≡ upstream (inflows g) (isOutlet g outlets) (places g) c))
+      (λ c up. (ground g c ≡ true) × (up ≡ upstream (inflows g) (isOutlet g outlets) (cellCount g) c))
       (λ c up. (up ≡ forest g outlets c) × (suc (size up) ≡ subaccumulation g outlets c))
       (λ c up p. (p .1, ap (λ f. suc (size f)) (p .1) ∙ sym (sub-size g a h outlets c (p .0))))
-      (forest g outlets x) (forest-trees (next g) (inflows g) (ground g) (places g) (𝓝 g) (λ y. getD a y 0)
+      (forest g outlets x) (forest-trees (next g) (inflows g) (ground g) (cellCount g) (𝓝 g) (λ y. getD a y 0)
       (lent g a h) (isOutlet g outlets) x v)
 
   -- the search meets a length at the cells of subaccumulation 1
@@ -79,6 +78,6 @@ module _ (g : Grid) (a : List ℕ) (h : agrees g a ≡ true) (outlets : List ℕ
       (next-back g c k f))
 
   pub route-climbs : (o c : ℕ) (l : Length) → member o outlets ≡ true → ground g o ≡ true → HasLength g outlets o c l
-      → climb g o (route (next g) (isOutlet g outlets) (places g) c) ≡ some c
-  route-climbs o c l u v p = climb-route (places g) c (record { cell = o; len = l })
+      → climb g o (route (next g) (isOutlet g outlets) (cellCount g) c) ≡ some c
+  route-climbs o c l u v p = climb-route (cellCount g) c (record { cell = o; len = l })
       (length-first g a h outlets o u v c l .0 p)

@@ -3,15 +3,15 @@
 use mathlib.Core.Path.{_≡_, refl, sym, ap, _∙_}
 use mathlib.Core.Bool.{Bool, true, false}
 use mathlib.Core.List.{List, [], _∷_, _++_}
-use Prim.Native.Nat.{ℕ, zero, suc}
+use Prim.Native.Nat.{ℕ}
 use native.Mathlib.Omega.{arith}
 use Rattle.lengths.specs.Lengths.{Lengths}
 use Rattle.lengths.proofs.Laws.{LengthLaws}
-use Rattle.ground.specs.Lists.{keepIf}
+use Rattle.lists.specs.Lists.{keepIf}
 use Rattle.ground.specs.Walk.{At}
 use Rattle.ground.specs.Forest.{Forest, bare, tree, everyCell, cellsAbove, cellsFrom}
-use Rattle.ground.proofs.Lists.{keep-append}
-use Rattle.search.specs.Search.{headwater, longest, meet, Rule, firstRule, searchFrom}
+use Rattle.lists.proofs.Lists.{keep-append}
+use Rattle.search.specs.Search.{headwater, longest, meet, firstRule, searchFrom}
 use Rattle.search.proofs.Meeting.{meet-shorter, meet-longer, meet-tie, meets, meets-append, meets-longest, le-lt}
 use Rattle.search.proofs.Dropping.{search-longest, first-covers}
 
@@ -20,13 +20,15 @@ module _ {S : Type 0} (𝓛 : Lengths S) (laws : LengthLaws 𝓛) where
   open LengthLaws laws using (asym, grows)
 
   -- met before a longer one, a length leaves no trace
-  overtaken : (gs : List (At Len)) (x y : At Len) → shorter (x .len) (y .len) ≡ true → meet 𝓛 (meet 𝓛 gs x) y ≡ meet 𝓛 gs y
+  overtaken : (gs : List (At Len)) (x y : At Len) → shorter (x .len) (y .len) ≡ true
+      → meet 𝓛 (meet 𝓛 gs x) y ≡ meet 𝓛 gs y
   overtaken [] x y h = meet-longer 𝓛 x [] y (asym (x .len) (y .len) h) h
   overtaken (g ∷ gs) x y h = go (shorter (x .len) (g .len)) refl (shorter (g .len) (x .len)) refl
     where
       -- unless x is shorter than the greatest, y is longer than that
       past : (gs′ : List (At Len)) → shorter (x .len) (g .len) ≡ false → meet 𝓛 (g ∷ gs′) y ≡ y ∷ []
-      past gs′ e = let k = le-lt 𝓛 laws (g .len) (x .len) (y .len) e h in meet-longer 𝓛 g gs′ y (asym (g .len) (y .len) k) k
+      past gs′ e = let k = le-lt 𝓛 laws (g .len) (x .len) (y .len) e h in
+          meet-longer 𝓛 g gs′ y (asym (g .len) (y .len) k) k
 
       go : (b : Bool) → shorter (x .len) (g .len) ≡ b → (c : Bool) → shorter (g .len) (x .len) ≡ c
           → meet 𝓛 (meet 𝓛 (g ∷ gs) x) y ≡ meet 𝓛 (g ∷ gs) y

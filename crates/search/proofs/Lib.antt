@@ -1,7 +1,6 @@
 pub mod Meeting
 pub mod Dropping
 pub mod Headwaters
-pub mod Waiting
 pub mod Ordered
 pub mod Demand3
 pub mod Faithful

@@ -2,16 +2,14 @@
 -- Assumes nothing.
 use mathlib.Core.Path.{_≡_, refl, sym, ap, _∙_, fun-ext}
 use mathlib.Core.Bool.{Bool, true, false, not, _||_, true≢false, or-assoc, or-false as or-off}
-use mathlib.Core.Logic.{_⊎_, inl, inr}
+use mathlib.Core.Logic.{inl, inr}
 use mathlib.Core.List.{List, [], _∷_, _++_, append-assoc, append-nil}
-use Prim.Native.Nat.{ℕ, zero, suc, _+_, _≤_}
-use native.Mathlib.Omega.{arith}
 use borrow.Author.Tests.{not-true}
 use Rattle.lengths.specs.Lengths.{Lengths}
 use Rattle.lengths.proofs.Laws.{LengthLaws}
-use Rattle.ground.specs.Lists.{In, Every, keepIf, only}
+use Rattle.lists.specs.Lists.{In, Every, keepIf, only}
 use Rattle.ground.specs.Walk.{At}
-use Rattle.ground.proofs.Lists.{every-map, only-append, only-none, or-false, in-only, only-in}
+use Rattle.lists.proofs.Lists.{every-map, only-append, only-none, or-false, in-only, only-in}
 use Rattle.search.specs.Search.{exceeded, longest, meet, meetIf}
 
 -- x is at most y
@@ -43,7 +41,8 @@ module _ {S : Type 0} (𝓛 : Lengths S) where
   meets-append gs [] ys = refl
   meets-append gs (x ∷ xs) ys = meets-append (meet 𝓛 gs x) xs ys
 
-  pub exceeded-append : (xs ys : List (At Len)) (l : Len) → exceeded 𝓛 (xs ++ ys) l ≡ (exceeded 𝓛 xs l || exceeded 𝓛 ys l)
+  pub exceeded-append : (xs ys : List (At Len)) (l : Len)
+      → exceeded 𝓛 (xs ++ ys) l ≡ (exceeded 𝓛 xs l || exceeded 𝓛 ys l)
   exceeded-append [] ys l = refl
   exceeded-append (x ∷ xs) ys l = ap (λ b. shorter l (x .len) || b) (exceeded-append xs ys l)
       ∙ sym (or-assoc (shorter l (x .len)) (exceeded 𝓛 xs l) (exceeded 𝓛 ys l))

@@ -4,13 +4,12 @@ use mathlib.Core.Path.{_≡_, refl, sym, ap, _∙_, subst}
 use mathlib.Core.Bool.{Bool, true, false}
 use mathlib.Core.List.{List, [], _∷_}
 use mathlib.Core.Option.{Option, none, some}
-use Prim.Native.Nat.{ℕ, zero, suc, _+_}
+use Prim.Native.Nat.{ℕ, suc, _+_}
 use native.Mathlib.Omega.{arith}
 use Rattle.lengths.specs.Lengths.{Lengths}
-use Rattle.ground.specs.Lists.{member}
+use Rattle.lists.specs.Lists.{member}
 use Rattle.ground.specs.Compass.{Dir, dirs, opposite}
-use Rattle.ground.specs.Grid.{Grid, Link, ground, neighbour, flowsIn, inflow, inflows, inflowsFrom}
-use Rattle.ground.specs.Walk.{At}
+use Rattle.ground.specs.Grid.{Grid, Link, ground, neighbour, flowsIn, inflows, inflowsFrom}
 use Rattle.ground.specs.Accumulation.{total, agrees, subaccumulation, isHeadwater}
 use Rattle.ground.specs.Subwatershed.{isOutlet}
 use Rattle.ground.specs.Forest.{Forest, tree, grow, forest}

@@ -4,18 +4,18 @@ use mathlib.Core.Path.{_≡_, refl, sym, ap, ap₂, _∙_, subst}
 use mathlib.Core.Bool.{Bool, true, false, not, _||_, true≢false}
 use mathlib.Core.Logic.{_⊎_, inl, inr}
 use mathlib.Core.List.{List, [], _∷_, _++_, map, map-append, append-assoc}
-use mathlib.Core.Option.{Option, none, some}
-use Prim.Native.Nat.{ℕ, zero, suc, _+_, _≤_, _<_}
+use mathlib.Core.Option.{Option, some}
+use Prim.Native.Nat.{ℕ, zero, suc, _≤_, _<_}
 use native.Mathlib.Omega.{arith}
 use Rattle.lengths.specs.Lengths.{Lengths}
 use Rattle.lengths.proofs.Laws.{LengthLaws}
-use Rattle.ground.specs.Lists.{In, Every, Sorted, keepIf, only}
+use Rattle.lists.specs.Lists.{In, Every, Sorted, keepIf, only}
 use Rattle.ground.specs.Compass.{Dir, placeOf, opposite}
 use Rattle.ground.specs.Grid.{Link}
 use Rattle.ground.specs.Walk.{At}
 use Rattle.ground.specs.Subwatershed.{firstOutlet, route, Parts}
 use Rattle.ground.specs.Forest.{Forest, bare, tree, grow, upstream, everyCell, cellsAbove, cellsFrom}
-use Rattle.ground.proofs.Lists.{
+use Rattle.lists.proofs.Lists.{
   every-append,
   every-map,
   every-in,
@@ -60,7 +60,8 @@ record Extends (xs ys : List Dir) : Type 0 where
 
 abbrev pub Orderly : ℕ → Forest Dir → Type 0
 Orderly n bare = Unit {0}
-Orderly n (tree c s above rest) = (n ≤ placeOf (opposite s)) × Orderly 0 above × Orderly (suc (placeOf (opposite s))) rest
+Orderly n (tree c s above rest) = (n ≤ placeOf (opposite s)) × Orderly 0 above
+    × Orderly (suc (placeOf (opposite s))) rest
 
 orderly-less : (n m : ℕ) (f : Forest Dir) → n ≤ m → Orderly m f → Orderly n f
 orderly-less n m bare h o = tt
@@ -276,7 +277,7 @@ module _ (𝓛 : Lengths Dir) (laws : LengthLaws 𝓛) where
         (λ n c v. sym (route-out next outlet n c v))
         (λ n c h a v f e ih. ap (λ r. r ++ (opposite (h .step) ∷ [])) ih ∙ sym (route-next next outlet n c h v f))
 
-    module _ (ups : ℕ → List (Link Dir)) (ground : ℕ → Bool) (places : ℕ) (𝓝 : Network next ups ground places)
+    module _ (ups : ℕ → List (Link Dir)) (ground : ℕ → Bool) (cellCount : ℕ) (𝓝 : Network next ups ground cellCount)
         (rising : (x : ℕ) → Rising 0 (ups x)) where
       -- THE ORDER: the longest of the cells that may start stand in the order in which their walks, read upstream, part
       pub longest-sorted : (may : ℕ → Bool) (n o : ℕ) → outlet o ≡ true
@@ -309,7 +310,7 @@ module _ (𝓛 : Lengths Dir) (laws : LengthLaws 𝓛) where
           routes : (x : At Routed) → In x ws → x .len .route ≡ route next outlet n (x .cell)
           routes x i = first-route n (x .cell) (record { cell = o; len = x .len })
               (every-in (λ a. firstOutlet routed next outlet n (a .cell) ≡ some (record { cell = o; len = a .len })) x
-              ws (cells-first routed next outlet ups ground places 𝓝 n o v) i)
+              ws (cells-first routed next outlet ups ground cellCount 𝓝 n o v) i)
 
           spelt : (x : At Routed) → In x ws → Spelt (x .len)
           spelt x i = every-in (λ y. Spelt (y .len)) x ws (start-spelt, cells-spelt (routed .start) f start-spelt) i

@@ -1,5 +1,4 @@
 pub mod Search
-pub mod Pending
 pub mod Neighbours
 pub mod Tracing
 pub mod Demand

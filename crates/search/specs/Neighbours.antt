@@ -5,7 +5,7 @@ use mathlib.Core.List.{List, [], _∷_}
 use mathlib.Core.Option.{Option, none, some}
 use Prim.Native.Nat.{ℕ, _+_}
 use Rattle.lengths.specs.Lengths.{Lengths}
-use Rattle.ground.specs.Lists.{member}
+use Rattle.lists.specs.Lists.{member}
 use Rattle.ground.specs.Compass.{Dir, dirs}
 use Rattle.ground.specs.Grid.{Grid, neighbour, flowsIn, inflows, inflowsFrom}
 use Rattle.ground.specs.Accumulation.{subaccumulation}

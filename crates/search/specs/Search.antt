@@ -3,8 +3,8 @@
 use mathlib.Core.Bool.{Bool, true, false, not, _&&_, _||_}
 use mathlib.Core.List.{List, [], _∷_, _++_}
 use Prim.Native.Nat.{ℕ, zero, suc, _+_}
-use Rattle.lengths.specs.Lengths.{Lengths}
-use Rattle.ground.specs.Lists.{only}
+use Rattle.lengths.specs.Lengths.{Lengths, farthest}
+use Rattle.lists.specs.Lists.{only}
 use Rattle.ground.specs.Walk.{At}
 use Rattle.ground.specs.Forest.{Forest, bare, tree, size, Which}
 
@@ -51,24 +51,20 @@ module _ {S : Type 0} (𝓛 : Lengths S) where
   belowGreatest [] l = false
   belowGreatest (g ∷ gs) l = shorter l (g .len)
 
-  -- d and n of the longest steps: d + n√2
-  abbrev pub farthest : Len → ℕ → Len
-  farthest d zero = d
-  farthest d (suc n) = farthest (d ▹ top) n
-
-  -- how a search goes: with or without dropping; the limit of a neighbour with n cells, entered by a step from a cell at
-  -- length d; and at which cells it meets a length
+  -- how a search goes: with or without dropping; the limit of a neighbour with n cells, entered by a step from a cell
+  -- at length d; and at which cells it meets a length
   pub record Rule : Type 0 where
     pub dropping : Bool
     pub limit : Len → S → ℕ → Len
     pub meets : Which S
 
-  -- 01's: lengths are met at headwaters, and n cells beyond length d reach d + n√2 at most, the step counted among the n
+  -- 01's: lengths are met at headwaters, and n cells beyond length d reach d + n√2 at most, the step counted among the
+  -- n
   abbrev pub firstRule : Bool → Rule
-  firstRule dropping = record { dropping = dropping; limit = λ d s n. farthest d n; meets = headwater }
+  firstRule dropping = record { dropping = dropping; limit = λ d s n. farthest 𝓛 d n; meets = headwater }
 
-  -- 01: a neighbour with its n cells is dropped if even its limit is shorter than the greatest length met; at equal length
-  -- it is not, since it may tie
+  -- 01: a neighbour with its n cells is dropped if even its limit is shorter than the greatest length met; at equal
+  -- length it is not, since it may tie
   abbrev pub drops : Rule → List (At Len) → Len → S → ℕ → Bool
   drops rule gs d s n = rule .dropping && belowGreatest gs (rule .limit d s n)
 
@@ -84,14 +80,15 @@ module _ {S : Type 0} (𝓛 : Lengths S) where
     dropped = st .dropped;
   }
 
-  -- 01: from a cell at length d, neighbour after neighbour, all above one before the next. The n of a neighbour counts its
-  -- cell and all above it
+  -- 01: from a cell at length d, neighbour after neighbour, all above one before the next. The n of a neighbour counts
+  -- its cell and all above it
   abbrev pub searchAbove : Rule → Len → State → Forest S → State
   searchAbove rule d st bare = st
-  searchAbove rule d st (tree c s above rest) = searchAbove rule d (elim (drops rule (st .starts) d s (suc (size above))) [
-    | true ↦ dropCells st (suc (size above))
-    | false ↦ searchAbove rule (d ▹ s) (visit rule st c (d ▹ s) above) above
-  ]) rest
+  searchAbove rule d st (tree c s above rest) = searchAbove rule d
+      (elim (drops rule (st .starts) d s (suc (size above))) [
+        | true ↦ dropCells st (suc (size above))
+        | false ↦ searchAbove rule (d ▹ s) (visit rule st c (d ▹ s) above) above
+      ]) rest
 
   -- 01: it starts at the outlet, and a cell is visited before its inflows
   abbrev pub searchFrom : Rule → ℕ → Forest S → State

@@ -11,16 +11,16 @@ use lib.Seq.{take-at, drop-at, drop-drop, length-take-le}
 use lib.Arith.{digits-lt, digits-div, digits-mod}
 use lib.Dec.{eqb, ltb, leb}
 use borrow.Author.Tests.{leb-true, ltb-true, eqb-true, lt-ltb}
-use Rattle.ground.proofs.Lists.{and-both}
+use Rattle.lists.proofs.Lists.{and-both}
 use Rattle.answers.specs.Checks.{firstFailed, allPass, isCode}
 use Rattle.spelling.specs.Format.{headerMark, rowMark, outletMark, endMark, marked, twoBytes}
 use Rattle.spelling.specs.Format.{rowRecord, outletRecord, endRecord, rowRecords, outletRecords}
 use Rattle.spelling.specs.Format.{spelling}
 use Rattle.spelling.specs.Reading.{numberAt, isRecord, isHeader, isRow, isOutlet, isEnd, rowCodes}
-use Rattle.spelling.specs.Reading.{codesFrom, outletCount, outletsFrom, isSheetSide}
+use Rattle.spelling.specs.Reading.{codesFrom, outletCount, outletsFrom, areSheetSides}
 use Rattle.spelling.specs.Reading.{tailChecks, rowsChecks, readNumber}
-use Rattle.spelling.specs.Reading.{fileRows, fileCols, fileTail, fileCodes, fileOutlets}
-use Rattle.spelling.proofs.Records.{passes, all-append, side-is, number-bytes, record-is}
+use Rattle.spelling.specs.Reading.{fileRows, fileCols, fileTail, fileCodes, fileOutlets, fileContent}
+use Rattle.spelling.proofs.Records.{passes, all-append, number-bytes, record-is, sized}
 
 -- ---- a row
 
@@ -98,7 +98,8 @@ pub record OutletIs (rows cols : ℕ) (rest : List ℕ) : Type 0 where
   pub col : numberAt 4 rest < cols
 
 -- where R and C are no more than 64, the outlet is its record
-outlet-spelled : {rows cols : ℕ} (rest : List ℕ) → rows ≤ 64 → cols ≤ 64 → isOutlet rest ≡ true → OutletIs rows cols rest
+outlet-spelled : {rows cols : ℕ} (rest : List ℕ) → rows ≤ 64 → cols ≤ 64 → isOutlet rest ≡ true
+    → OutletIs rows cols rest
     → rest ≡ outletRecord (numberAt 2 rest) (numberAt 4 rest) ++ drop 6 rest
 outlet-spelled rest h k e o =
     record-is outletMark 6 rest e .begins (omega arith)
@@ -177,7 +178,7 @@ pub record Accepted (file : List ℕ) (grid list : ℕ) : Type 0 where
   pub tail : TailIs (fileRows file) (fileCols file) 257 (fileTail file)
   pub few-outlets : length (fileOutlets file) ≤ 256
   -- IT IS THE SPELLING of what is read of it
-  pub spelled : file ≡ spelling (fileRows file) (fileCols file) (fileCodes file) (fileOutlets file)
+  pub spelled : file ≡ spelling (fileContent file)
 
 pub accepted : (file : List ℕ) (grid list : ℕ) → readNumber file grid list ≡ 0 → Accepted file grid list
 unfolding readNumber firstFailed spelling
@@ -185,22 +186,20 @@ accepted file grid list e =
     let R = fileRows file in
     let C = fileCols file in
     let a = passes (isHeader file) _ 0 e in
-    let b = passes (isSheetSide R && isSheetSide C) _ 1 (a .1) in
+    let b = passes (areSheetSides R C) _ 1 (a .1) in
     let c = passes (leb (R * C) grid && leb 256 list) _ 2 (b .1) in
     let w = record-is headerMark 6 file (a .0) in
-    let sides = and-both (isSheetSide R) (isSheetSide C) (b .0) in
-    let r = side-is R (sides .0) in
-    let k = side-is C (sides .1) in
+    let s = sized R C (b .0) in
     let lent = and-both (leb (R * C) grid) (leb 256 list) (c .0) in
-    let rows = rows-are R C 0 R (drop 6 file) (omega (arith, r .1)) (c .1) in
+    let rows = rows-are R C 0 R (drop 6 file) (omega (arith, s .rows-small)) (c .1) in
     let after = drop-drop (R * (4 + C)) 6 file in
-    let tail = tail-is R C 257 (fileTail file) (r .1) (k .1) (rw after at (rows .later)) in
+    let tail = tail-is R C 257 (fileTail file) (s .rows-small) (s .cols-small) (rw after at (rows .later)) in
     record {
       header = w .fits;
-      some-rows = r .0;
-      rows-small = r .1;
-      some-cols = k .0;
-      cols-small = k .1;
+      some-rows = s .some-rows;
+      rows-small = s .rows-small;
+      some-cols = s .some-cols;
+      cols-small = s .cols-small;
       has-grid = leb-true (R * C) grid (lent .0);
       has-list = leb-true 256 list (lent .1);
       rows = rows;
@@ -208,8 +207,9 @@ accepted file grid list e =
       few-outlets = omega (arith, tail .few, outlets-long C (outletCount 257 (fileTail file)) (fileTail file));
       spelled =
           w .begins (omega arith)
-          ∙ ap (marked headerMark) (number-bytes 2 file (omega (arith, w .fits)) (omega (arith, r .1))
-          ∙ ap (λ (l : List ℕ). twoBytes R ++ l) (number-bytes 4 file (omega (arith, w .fits)) (omega (arith, k .1))
+          ∙ ap (marked headerMark) (number-bytes 2 file (omega (arith, w .fits)) (omega (arith, s .rows-small))
+          ∙ ap (λ (l : List ℕ). twoBytes R ++ l)
+          (number-bytes 4 file (omega (arith, w .fits)) (omega (arith, s .cols-small))
           ∙ ap (λ (l : List ℕ). twoBytes C ++ l) (rows .spelled
           ∙ ap (λ (l : List ℕ). rowRecords C 0 R (fileCodes file) ++ l) (after ∙ tail .spelled))));
     }

@@ -7,9 +7,10 @@ use lib.ListN.{take, replicate}
 use lib.Dec.{lit<, lit≤}
 use Rattle.ground.specs.Compass.{dirOf}
 use Rattle.answers.specs.Checks.{firstFailed, isCode, check23}
-use Rattle.answers.specs.Entries.{overlaid}
+use Rattle.lists.specs.Slices.{overlaid}
 use Rattle.spelling.specs.Format.{headerRecord, outletRecord, endRecord, rowRecords, outletRecords, spelling}
-use Rattle.spelling.specs.Reading.{numberAt, isRecord, codesFrom, outletCount, outletsFrom, tailChecks, rowsChecks}
+use Rattle.spelling.specs.Reading.{numberAt, isRecord, codesFrom, outletCount, outletsFrom}
+use Rattle.spelling.specs.Reading.{tailChecks, rowsChecks}
 use Rattle.spelling.specs.Reading.{readNumber, readAnswer, readLeavesCodes, readLeavesOutlets}
 use Rattle.spelling.specs.Writing.{writeNumber, writeAnswer, writeLeaves}
 use Rattle.spelling.specs.Examples.{sampleCodes, worked, examples}

@@ -3,17 +3,18 @@
 use mathlib.Core.Path.{_≡_, refl, _∙_}
 use mathlib.Core.Bool.{Bool, true, false, cond, _&&_}
 use mathlib.Core.List.{List, [], _∷_, _++_}
-use Prim.Native.Nat.{ℕ, suc, _+_, _*_, _/_, _%_, _≤_, _<_}
-use native.Mathlib.Nat.{add-zero}
+use Prim.Native.Nat.{ℕ, zero, suc, _+_, _*_, _/_, _%_, _≤_, _<_}
+use native.Mathlib.Nat.{add-zero, mul-le-mul}
 use native.Mathlib.Omega.{arith}
-use lib.ListN.{length, getD, drop, length-drop}
-use lib.Seq.{drop-drop, getD-drop}
+use lib.ListN.{length, getD, take, drop, length-drop}
+use lib.Seq.{take-suc, drop-drop, getD-drop}
 use lib.Dec.{leb, eqb}
 use borrow.Author.Tests.{leb-true, eqb-true, le-leb, eq-eqb}
-use Rattle.ground.proofs.Lists.{and-both}
+use Rattle.lists.specs.Lists.{allBelow}
+use Rattle.lists.proofs.Lists.{and-both}
 use Rattle.answers.specs.Checks.{allPass}
 use Rattle.spelling.specs.Format.{Mark, marked, twoBytes, outletMark}
-use Rattle.spelling.specs.Reading.{numberAt, isRecord, isEnd, isSheetSide}
+use Rattle.spelling.specs.Reading.{numberAt, isRecord, isEnd, isSheetSide, areSheetSides}
 
 -- ---- checks
 
@@ -30,11 +31,49 @@ all-append f (x ∷ xs) ys = rw (all-append f xs ys) (assoc (f x) (allPass f xs)
     assoc true b c = refl
     assoc false b c = refl
 
-pub side-is : (n : ℕ) → isSheetSide n ≡ true → (1 ≤ n) × (n ≤ 64)
+-- a test of the numbers below n is one of the first n elements
+pub all-first : (f : ℕ → Bool) (l : List ℕ) (n : ℕ) → n ≤ length l
+    → allBelow (λ x. f (getD l x 0)) n ≡ allPass f (take n l)
+all-first f l zero h = refl
+all-first f l (suc n) h =
+    rw (take-suc l n 0 (omega arith), all-append f (take n l) (getD l n 0 ∷ []), all-first f l n (omega arith))
+    (swap (f (getD l n 0)) (allPass f (take n l)))
+  where
+    swap : (a b : Bool) → (a && b) ≡ (b && (a && true))
+    swap true true = refl
+    swap true false = refl
+    swap false true = refl
+    swap false false = refl
+
+side-is : (n : ℕ) → isSheetSide n ≡ true → (1 ≤ n) × (n ≤ 64)
 side-is n e = let q = and-both (leb 1 n) (leb n 64) e in (leb-true 1 n (q .0), leb-true n 64 (q .1))
 
 pub is-side : (n : ℕ) → 1 ≤ n → n ≤ 64 → isSheetSide n ≡ true
 is-side n h k = rw (le-leb 1 n h, le-leb n 64 k)
+
+-- the sizes that 2 leaves: R, C, the cells, and the bytes of all rows
+pub record Sized (rows cols : ℕ) : Type 0 where
+  pub some-rows : 1 ≤ rows
+  pub rows-small : rows ≤ 64
+  pub some-cols : 1 ≤ cols
+  pub cols-small : cols ≤ 64
+  pub few-cells : rows * cols ≤ 4096
+  pub few-bytes : rows * (4 + cols) ≤ 4352
+
+pub sized : (rows cols : ℕ) → areSheetSides rows cols ≡ true → Sized rows cols
+sized rows cols e =
+    let s = and-both (isSheetSide rows) (isSheetSide cols) e in
+    let r = side-is rows (s .0) in
+    let c = side-is cols (s .1) in
+    let k : 4 + cols ≤ 68 = omega (arith, c .1) in
+    record {
+      some-rows = r .0;
+      rows-small = r .1;
+      some-cols = c .0;
+      cols-small = c .1;
+      few-cells = mul-le-mul (r .1) (c .1);
+      few-bytes = mul-le-mul (r .1) k;
+    }
 
 -- ---- numbers
 

@@ -1,13 +1,21 @@
--- How long a spelling is, and which codes it takes.
+-- How long a spelling is, and which codes it takes; that there is room for the next row.
 -- Assumes nothing.
 use mathlib.Core.Path.{_≡_, refl, sym, ap}
 use mathlib.Core.List.{List, [], _∷_, _++_}
-use Prim.Native.Nat.{ℕ, zero, suc, _+_, _*_, _≤_}
-use native.Mathlib.Nat.{zero-mul, suc-mul}
+use Prim.Native.Nat.{ℕ, zero, suc, _+_, _*_, _≤_, _<_}
+use native.Mathlib.Nat.{zero-mul, suc-mul, mul-le-mul}
 use native.Mathlib.Omega.{arith}
 use lib.ListN.{length, take, drop, length-append, length-drop}
 use lib.Seq.{take-at, drop-at, take-add, length-take-le}
+use Rattle.spelling.specs.Content.{Content, lentContent}
 use Rattle.spelling.specs.Format.{rowRecord, endRecord, rowRecords, outletRecords, spelling}
+
+-- row by row there is room for the next
+pub next-fits : (row rows k : ℕ) → row < rows → row * k + k ≤ rows * k
+next-fits row rows k h =
+    let s : suc row ≤ rows = omega arith in
+    let m : suc row * k ≤ rows * k = mul-le-mul s (omega arith) in
+    omega (arith, suc-mul row k)
 
 pub rows-length : (cols row n : ℕ) (codes : List ℕ) → n * cols ≤ length codes
     → length (rowRecords cols row n codes) ≡ n * (4 + cols)
@@ -28,16 +36,18 @@ unfolding outletRecords
 outlets-length cols [] = refl
 outlets-length cols (o ∷ os) = omega (arith, outlets-length cols os)
 
-pub spelling-length : (rows cols : ℕ) (codes outlets : List ℕ) → rows * cols ≤ length codes
-    → length (spelling rows cols codes outlets) ≡ 6 + rows * (4 + cols) + 6 * length outlets + 2
+pub spelling-length : (c : Content) → c .rows * c .cols ≤ length (c .codes)
+    → length (spelling c) ≡ 6 + c .rows * (4 + c .cols) + 6 * length (c .outlets) + 2
 unfolding spelling
-spelling-length rows cols codes outlets h =
+spelling-length c h =
+    let rows = rowRecords (c .cols) 0 (c .rows) (c .codes) in
+    let outlets = outletRecords (c .cols) (c .outlets) in
     omega (
       arith,
-      length-append (rowRecords cols 0 rows codes) (outletRecords cols outlets ++ endRecord),
-      length-append (outletRecords cols outlets) endRecord,
-      rows-length cols 0 rows codes h,
-      outlets-length cols outlets,
+      length-append rows (outlets ++ endRecord),
+      length-append outlets endRecord,
+      rows-length (c .cols) 0 (c .rows) (c .codes) h,
+      outlets-length (c .cols) (c .outlets),
     )
 
 -- n rows take n × C codes
@@ -54,7 +64,6 @@ rows-first cols row (suc n) codes h =
     (ap (λ (l : List ℕ). rowRecord row here ++ l)
     (rows-first cols (row + 1) n (drop cols codes) (omega (arith, length-drop cols codes))))
 
-pub spelling-first : (rows cols : ℕ) (codes outlets : List ℕ) → rows * cols ≤ length codes
-    → spelling rows cols (take (rows * cols) codes) outlets ≡ spelling rows cols codes outlets
+pub spelling-first : (c : Content) → c .rows * c .cols ≤ length (c .codes) → spelling (lentContent c) ≡ spelling c
 unfolding spelling
-spelling-first rows cols codes outlets h = rw (rows-first cols 0 rows codes h)
+spelling-first c h = rw (rows-first (c .cols) 0 (c .rows) (c .codes) h)

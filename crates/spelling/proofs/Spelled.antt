@@ -10,15 +10,16 @@ use lib.ListN.{length, take, drop, length-drop, length-append}
 use lib.Seq.{take-at, drop-at, take-add, drop-drop, length-take-le}
 use lib.Dec.{ltb}
 use borrow.Author.Tests.{ltb-true, le-leb, lt-ltb, eq-eqb}
-use Rattle.ground.proofs.Lists.{and-both}
+use Rattle.lists.proofs.Lists.{and-both}
 use Rattle.answers.specs.Checks.{Check, firstFailed, allPass, isCode}
+use Rattle.spelling.specs.Content.{Content, lentContent}
 use Rattle.spelling.specs.Format.{headerMark, rowMark, outletMark, twoBytes}
 use Rattle.spelling.specs.Format.{headerRecord, rowRecord, outletRecord, endRecord, rowRecords, outletRecords}
 use Rattle.spelling.specs.Format.{spelling}
 use Rattle.spelling.specs.Reading.{numberAt, isRecord, isRow, rowCodes}
 use Rattle.spelling.specs.Reading.{codesFrom, outletCount, outletsFrom, outletChecks}
 use Rattle.spelling.specs.Reading.{tailChecks, rowsChecks, readNumber}
-use Rattle.spelling.specs.Reading.{fileRows, fileCols, fileTail, fileCodes, fileOutlets}
+use Rattle.spelling.specs.Reading.{fileRows, fileCols, fileTail, fileCodes, fileOutlets, fileContent}
 use Rattle.spelling.proofs.Records.{all-append, is-side, of-bytes, is-record, no-end}
 
 -- ---- rows
@@ -73,25 +74,26 @@ rows-read rows cols row (suc n) codes more h a =
 
 -- ---- outlets
 
--- the record of a cell of the grid, and what follows it
-module _ (rows cols o : ℕ) (more : List ℕ) (some : 0 < cols) (inside : o < rows * cols) where
-  abbrev outlet : List ℕ
-  outlet = outletRecord (o / cols) (o % cols) ++ more
+-- the record of a cell, and what follows it
+abbrev outlet : ℕ → ℕ → List ℕ → List ℕ
+outlet cols o more = outletRecord (o / cols) (o % cols) ++ more
 
-  outlet-number : (later : List Check) → firstFailed (outletChecks rows cols outlet ++ later) ≡ firstFailed later
-  unfolding firstFailed numberAt
-  outlet-number later =
-      rw (
-        is-record outletMark 6 (twoBytes (o / cols) ++ (twoBytes (o % cols) ++ more)) (omega arith),
-        of-bytes (o / cols),
-        of-bytes (o % cols),
-        lt-ltb (o / cols) rows (div-lt-iff-lt-mul some .1 inside),
-        lt-ltb (o % cols) cols (mod-lt o some),
-      )
+outlet-cell : (cols o : ℕ) (more : List ℕ)
+    → numberAt 2 (outlet cols o more) * cols + numberAt 4 (outlet cols o more) ≡ o
+unfolding numberAt
+outlet-cell cols o more = rw (of-bytes (o / cols), of-bytes (o % cols)) (div-add-mod' o cols)
 
-  outlet-cell : numberAt 2 outlet * cols + numberAt 4 outlet ≡ o
-  unfolding numberAt
-  outlet-cell = rw (of-bytes (o / cols), of-bytes (o % cols)) (div-add-mod' o cols)
+outlet-number : (rows cols o : ℕ) (more : List ℕ) → 0 < cols → o < rows * cols → (later : List Check)
+    → firstFailed (outletChecks rows cols (outlet cols o more) ++ later) ≡ firstFailed later
+unfolding firstFailed numberAt
+outlet-number rows cols o more some inside later =
+    rw (
+      is-record outletMark 6 (twoBytes (o / cols) ++ (twoBytes (o % cols) ++ more)) (omega arith),
+      of-bytes (o / cols),
+      of-bytes (o % cols),
+      lt-ltb (o / cols) rows (div-lt-iff-lt-mul some .1 inside),
+      lt-ltb (o % cols) cols (mod-lt o some),
+    )
 
 pub record OutletsRead (rows cols n : ℕ) (os more : List ℕ) : Type 0 where
   pub number : firstFailed (tailChecks rows cols (length os + n) (outletRecords cols os ++ more))
@@ -110,12 +112,11 @@ outlets-read rows cols n (o ∷ os) more some a =
     let later = outletRecords cols os ++ more in
     let ih = outlets-read rows cols n os more some (b .1) in
     let e = no-end (twoBytes (o / cols) ++ (twoBytes (o % cols) ++ later)) in
+    let rest = tailChecks rows cols (length os + n) later in
     record {
-      number =
-          rw (suc-add (length os) n, e, outlet-number rows cols o later some i (tailChecks rows cols (length os + n) later))
-          (ih .number);
+      number = rw (suc-add (length os) n, e, outlet-number rows cols o later some i rest) (ih .number);
       count = rw (suc-add (length os) n, e) (omega (arith, ih .count));
-      same = rw (outlet-cell rows cols o later some i, ih .same);
+      same = rw (outlet-cell cols o later, ih .same);
     }
 
 -- nothing but the end record
@@ -154,85 +155,98 @@ pub record SheetGrid (rows cols : ℕ) (codes : List ℕ) : Type 0 where
   pub are-codes : allPass isCode (take (rows * cols) codes) ≡ true
 
 -- header and rows of such a grid, and anything after them
-module _ (rows cols : ℕ) (codes more : List ℕ) (g : SheetGrid rows cols codes) where
+module _ (rows cols : ℕ) (codes more : List ℕ) where
   abbrev file : List ℕ
   file = headerRecord rows cols ++ (rowRecords cols 0 rows codes ++ more)
 
-  abbrev read : RowsRead rows cols 0 rows codes more
-  read = rows-read rows cols 0 rows codes more (g .has-codes) (g .are-codes)
-
-  pub rows-same : fileRows file ≡ rows
+  rows-same : fileRows file ≡ rows
   unfolding numberAt
   rows-same = of-bytes rows
 
-  pub cols-same : fileCols file ≡ cols
+  cols-same : fileCols file ≡ cols
   unfolding numberAt
   cols-same = of-bytes cols
 
-  pub codes-same : fileCodes file ≡ take (rows * cols) codes
-  codes-same = rw (rows-same, cols-same) (read .same)
+  module _ (g : SheetGrid rows cols codes) where
+    abbrev read : RowsRead rows cols 0 rows codes more
+    read = rows-read rows cols 0 rows codes more (g .has-codes) (g .are-codes)
 
-  pub tail-same : fileTail file ≡ more
-  tail-same = rw (rows-same, cols-same) (sym (drop-drop (rows * (4 + cols)) 6 file) ∙ read .after)
+    codes-same : fileCodes file ≡ take (rows * cols) codes
+    codes-same = rw (rows-same, cols-same) (read .same)
 
-  -- the number is that of what follows the rows
-  pub number-after-rows : (grid list : ℕ) → rows * cols ≤ grid → 256 ≤ list
-      → readNumber file grid list ≡ firstFailed (tailChecks rows cols 257 more)
-  unfolding readNumber firstFailed
-  number-after-rows grid list h k =
-      rw (
-        is-record headerMark 6 (twoBytes rows ++ (twoBytes cols ++ (rowRecords cols 0 rows codes ++ more))) (omega arith),
-        rows-same,
-        cols-same,
-        is-side rows (g .some-rows) (g .rows-small),
-        is-side cols (g .some-cols) (g .cols-small),
-        le-leb (rows * cols) grid h,
-        le-leb 256 list k,
-      )
-      (read .number)
+    tail-same : fileTail file ≡ more
+    tail-same = rw (rows-same, cols-same) (sym (drop-drop (rows * (4 + cols)) 6 file) ∙ read .after)
+
+    -- the number is that of what follows the rows
+    pub number-after-rows : (grid list : ℕ) → rows * cols ≤ grid → 256 ≤ list
+        → readNumber file grid list ≡ firstFailed (tailChecks rows cols 257 more)
+    unfolding readNumber firstFailed
+    number-after-rows grid list h k =
+        let later = twoBytes rows ++ (twoBytes cols ++ (rowRecords cols 0 rows codes ++ more)) in
+        rw (
+          is-record headerMark 6 later (omega arith),
+          rows-same,
+          cols-same,
+          is-side rows (g .some-rows) (g .rows-small),
+          is-side cols (g .some-cols) (g .cols-small),
+          le-leb (rows * cols) grid h,
+          le-leb 256 list k,
+        )
+        (read .number)
 
 -- and with outlets of the grid, and the end
-module _ (rows cols : ℕ) (codes outlets : List ℕ) (g : SheetGrid rows cols codes)
-    (inside : allPass (λ o. ltb o (rows * cols)) outlets ≡ true) where
-  abbrev tail : List ℕ
-  tail = outletRecords cols outlets ++ endRecord
+abbrev tail : Content → List ℕ
+tail c = outletRecords (c .cols) (c .outlets) ++ endRecord
 
-  module _ (few : length outlets ≤ 256) where
-    abbrev spare : ℕ
-    spare = 256 - length outlets
+abbrev spare : Content → ℕ
+spare c = 256 - length (c .outlets)
 
-    abbrev outlets-back : OutletsRead rows cols (suc spare) outlets endRecord
-    outlets-back = outlets-read rows cols (suc spare) outlets endRecord (g .some-cols) inside
+all-records : (c : Content) → length (c .outlets) ≤ 256 → 257 ≡ length (c .outlets) + suc (spare c)
+all-records c few = omega arith
 
-    all-records : 257 ≡ length outlets + suc spare
-    all-records = omega arith
+module _ (c : Content) (g : SheetGrid (c .rows) (c .cols) (c .codes))
+    (inside : allPass (λ o. ltb o (c .rows * c .cols)) (c .outlets) ≡ true) where
+  abbrev back : OutletsRead (c .rows) (c .cols) (suc (spare c)) (c .outlets) endRecord
+  back = outlets-read (c .rows) (c .cols) (suc (spare c)) (c .outlets) endRecord (g .some-cols) inside
 
+  module _ (few : length (c .outlets) ≤ 256) where
     -- IT IS ACCEPTED,
-    pub spelling-accepted : (grid list : ℕ) → rows * cols ≤ grid → 256 ≤ list
-        → readNumber (spelling rows cols codes outlets) grid list ≡ 0
+    pub spelling-accepted : (grid list : ℕ) → c .rows * c .cols ≤ grid → 256 ≤ list
+        → readNumber (spelling c) grid list ≡ 0
     unfolding spelling
     spelling-accepted grid list h k =
-        number-after-rows rows cols codes tail g grid list h k
-        ∙ rw all-records (outlets-back .number ∙ end-number rows cols spare)
+        number-after-rows (c .rows) (c .cols) (c .codes) (tail c) g grid list h k
+        ∙ rw (all-records c few) (back .number ∙ end-number (c .rows) (c .cols) (spare c))
 
     -- with its outlets
-    pub outlets-same : fileOutlets (spelling rows cols codes outlets) ≡ outlets
+    outlets-same : fileOutlets (spelling c) ≡ c .outlets
     unfolding spelling
     outlets-same =
         rw (
-          tail-same rows cols codes tail g,
-          cols-same rows cols codes tail g,
-          all-records,
-          outlets-back .count,
-          end-count spare,
-          add-zero (length outlets),
+          tail-same (c .rows) (c .cols) (c .codes) (tail c) g,
+          cols-same (c .rows) (c .cols) (c .codes) (tail c),
+          all-records c few,
+          back .count,
+          end-count (spare c),
+          add-zero (length (c .outlets)),
         )
-        (outlets-back .same)
+        (back .same)
+
+    -- and all of its content
+    pub content-same : fileContent (spelling c) ≡ lentContent c
+    unfolding spelling
+    content-same =
+        rw (
+          codes-same (c .rows) (c .cols) (c .codes) (tail c) g,
+          outlets-same,
+          rows-same (c .rows) (c .cols) (c .codes) (tail c),
+          cols-same (c .rows) (c .cols) (c .codes) (tail c),
+        )
 
   -- IT IS REFUSED WITH 8 where they are more than 256
-  pub spelling-8 : 256 < length outlets → (grid list : ℕ) → rows * cols ≤ grid → 256 ≤ list
-      → readNumber (spelling rows cols codes outlets) grid list ≡ 8
+  pub spelling-8 : 256 < length (c .outlets) → (grid list : ℕ) → c .rows * c .cols ≤ grid → 256 ≤ list
+      → readNumber (spelling c) grid list ≡ 8
   unfolding spelling
   spelling-8 many grid list h k =
-      number-after-rows rows cols codes tail g grid list h k
-      ∙ outlets-many rows cols 257 outlets endRecord (g .some-cols) inside (omega arith)
+      number-after-rows (c .rows) (c .cols) (c .codes) (tail c) g grid list h k
+      ∙ outlets-many (c .rows) (c .cols) 257 (c .outlets) endRecord (g .some-cols) inside (omega arith)

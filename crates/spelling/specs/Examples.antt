@@ -1,5 +1,5 @@
--- The sheet of 01, damaged sheets, and calls of writing, as one table. Each row holds what is called and what it answers
--- and leaves; `worked` works the row out again from what is called.
+-- The sheet of 01, damaged sheets, and calls of writing, as one table. Each row holds what is called and what it
+-- answers and leaves; `worked` works the row out again from what is called.
 -- Assumes nothing.
 use mathlib.Core.List.{List, [], _∷_, _++_}
 use Prim.Native.Nat.{ℕ, _-_, _^_}
@@ -7,6 +7,7 @@ use lib.ListN.{length, take, drop, set, replicate}
 use Rattle.answers.specs.Marked.{nines}
 use Rattle.spelling.specs.declared.Sheet.{Sheet}
 use Rattle.spelling.specs.declared.Written.{Written}
+use Rattle.spelling.specs.Content.{Content, content}
 use Rattle.spelling.specs.Format.{outletRecord, endRecord, spelling}
 use Rattle.spelling.specs.Reading.{readAnswer, readLeavesCodes, readLeavesOutlets}
 use Rattle.spelling.specs.Writing.{writeAnswer, writeLeaves}
@@ -15,15 +16,13 @@ pub data Example : Type 0 where
   -- reading a file into a grid and a list: what is handed back, and left in the two
   reads : (file grid list : List ℕ) → Sheet → List ℕ → List ℕ → Example
   -- writing a content: what is handed back, and left in the bytes
-  writes : (rows cols : ℕ) (codes outlets bytes : List ℕ) → Written → List ℕ → Example
+  writes : Content → (bytes : List ℕ) → Written → List ℕ → Example
 
 abbrev pub worked : Example → Example
 worked (reads file grid list s codes outlets) =
     reads file grid list (readAnswer file (length grid) (length list)) (readLeavesCodes file grid list)
     (readLeavesOutlets file grid list)
-worked (writes rows cols codes outlets bytes w left) =
-    writes rows cols codes outlets bytes (writeAnswer rows cols codes outlets bytes)
-    (writeLeaves rows cols codes outlets bytes)
+worked (writes c bytes w left) = writes c bytes (writeAnswer c bytes) (writeLeaves c bytes)
 
 -- 44 38 01 00 04 00 52 57 00 00 01 04 10 10 4F 54 00 00 01 00 45 4E
 abbrev pub sample : List ℕ
@@ -35,7 +34,7 @@ sampleCodes = 1 ∷ 4 ∷ 16 ∷ 16 ∷ []
 
 -- two rows of four, no outlets
 abbrev pub twoRows : List ℕ
-twoRows = spelling 2 4 (4 ∷ 4 ∷ 4 ∷ 0 ∷ 1 ∷ 1 ∷ 1 ∷ 1 ∷ []) []
+twoRows = spelling (content 2 4 (4 ∷ 4 ∷ 4 ∷ 0 ∷ 1 ∷ 1 ∷ 1 ∷ 1 ∷ []) [])
 
 -- a file that is refused where so many places are lent, all of them nines
 abbrev refuses : List ℕ → ℕ → ℕ → ℕ → Example
@@ -54,9 +53,8 @@ accepts file rows cols codes outlets =
     (codes ++ drop (length codes) (nines 9)) (outlets ++ drop (length outlets) (nines 257))
 
 -- a call of writing that is refused, with so many bytes lent
-abbrev unwritten : ℕ → ℕ → List ℕ → List ℕ → ℕ → ℕ → Example
-unwritten rows cols codes outlets bytes number =
-    writes rows cols codes outlets (nines bytes) (record { number = number; length = 0 }) (nines bytes)
+abbrev unwritten : Content → ℕ → ℕ → Example
+unwritten c bytes number = writes c (nines bytes) (record { number = number; length = 0 }) (nines bytes)
 
 abbrev pub examples : List Example
 examples =
@@ -111,15 +109,15 @@ examples =
     ∷ accepts (take 22 twoRows ++ outletRecord 0 3 ++ outletRecord 0 3 ++ endRecord) 2 4
     (4 ∷ 4 ∷ 4 ∷ 0 ∷ 1 ∷ 1 ∷ 1 ∷ 1 ∷ []) (3 ∷ 3 ∷ [])
     -- writing: in more bytes, and in just enough; a fifth code is not looked at
-    ∷ writes 1 4 sampleCodes (1 ∷ []) (nines 24) (record { number = 0; length = 22 }) (sample ++ 9 ∷ 9 ∷ [])
-    ∷ writes 1 4 (sampleCodes ++ 3 ∷ []) (1 ∷ []) (nines 22) (record { number = 0; length = 22 }) sample
+    ∷ writes (content 1 4 sampleCodes (1 ∷ [])) (nines 24) (record { number = 0; length = 22 }) (sample ++ 9 ∷ 9 ∷ [])
+    ∷ writes (content 1 4 (sampleCodes ++ 3 ∷ []) (1 ∷ [])) (nines 22) (record { number = 0; length = 22 }) sample
     -- 2, 3, 5, 8, 7, 23, each before the next
-    ∷ unwritten 0 4 [] [] 0 2
-    ∷ unwritten 1 65 [] [] 0 2
-    ∷ unwritten (2 ^ 64 - 1) (2 ^ 64 - 1) [] [] 0 2
-    ∷ unwritten 1 4 (1 ∷ 4 ∷ 3 ∷ []) [] 0 3
-    ∷ unwritten 1 2 (1 ∷ 5 ∷ []) (replicate 257 2) 0 5
-    ∷ unwritten 1 2 (1 ∷ 4 ∷ []) (replicate 257 2) 0 8
-    ∷ unwritten 1 2 (1 ∷ 4 ∷ []) (0 ∷ 2 ∷ []) 0 7
-    ∷ unwritten 1 4 sampleCodes (1 ∷ []) 21 23
+    ∷ unwritten (content 0 4 [] []) 0 2
+    ∷ unwritten (content 1 65 [] []) 0 2
+    ∷ unwritten (content (2 ^ 64 - 1) (2 ^ 64 - 1) [] []) 0 2
+    ∷ unwritten (content 1 4 (1 ∷ 4 ∷ 3 ∷ []) []) 0 3
+    ∷ unwritten (content 1 2 (1 ∷ 5 ∷ []) (replicate 257 2)) 0 5
+    ∷ unwritten (content 1 2 (1 ∷ 4 ∷ []) (replicate 257 2)) 0 8
+    ∷ unwritten (content 1 2 (1 ∷ 4 ∷ []) (0 ∷ 2 ∷ [])) 0 7
+    ∷ unwritten (content 1 4 sampleCodes (1 ∷ [])) 21 23
     ∷ []

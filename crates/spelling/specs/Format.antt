@@ -3,6 +3,7 @@
 use mathlib.Core.List.{List, [], _∷_, _++_}
 use Prim.Native.Nat.{ℕ, zero, suc, _+_, _/_, _%_}
 use lib.ListN.{take, drop}
+use Rattle.spelling.specs.Content.{Content}
 
 -- "A two-byte mark precedes each record"
 pub record Mark : Type 0 where
@@ -60,6 +61,7 @@ outletRecords cols [] = []
 outletRecords cols (o ∷ os) = outletRecord (o / cols) (o % cols) ++ outletRecords cols os
 
 -- "A file is header, all rows, outlets, end"
-unfoldable pub spelling : ℕ → ℕ → List ℕ → List ℕ → List ℕ
-spelling rows cols codes outlets =
-    headerRecord rows cols ++ (rowRecords cols 0 rows codes ++ (outletRecords cols outlets ++ endRecord))
+unfoldable pub spelling : Content → List ℕ
+spelling c =
+    headerRecord (c .rows) (c .cols)
+    ++ (rowRecords (c .cols) 0 (c .rows) (c .codes) ++ (outletRecords (c .cols) (c .outlets) ++ endRecord))

@@ -1,5 +1,5 @@
+pub mod Content
 pub mod Format
 pub mod Reading
 pub mod Writing
-pub mod Content
 pub mod Examples

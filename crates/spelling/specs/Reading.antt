@@ -1,12 +1,14 @@
 -- Reading a sheet: its checks, forward through the file; what is handed back, and what is left in the lent places.
 -- Assumes nothing.
+use mathlib.Core.Path.{_≡_}
 use mathlib.Core.Bool.{Bool, false, cond, _&&_}
 use mathlib.Core.List.{List, [], _∷_, _++_}
 use Prim.Native.Nat.{ℕ, zero, suc, _+_, _*_}
 use lib.ListN.{length, getD, take, drop}
 use lib.Dec.{eqb, ltb, leb}
 use Rattle.answers.specs.Checks.{Check, check, firstFailed, allPass, isCode}
-use Rattle.answers.specs.Entries.{overlaid}
+use Rattle.lists.specs.Slices.{overlaid}
+use Rattle.spelling.specs.Content.{Content, content, lentContent}
 use Rattle.spelling.specs.Format.{Mark, headerMark, rowMark, outletMark, endMark}
 use Rattle.spelling.specs.declared.Sheet.{Sheet}
 
@@ -53,7 +55,7 @@ unfoldable pub outletsFrom : ℕ → ℕ → List ℕ → List ℕ
 outletsFrom cols zero rest = []
 outletsFrom cols (suc n) rest = (numberAt 2 rest * cols + numberAt 4 rest) ∷ outletsFrom cols n (drop 6 rest)
 
--- R and C, the rest after the rows, the codes and the outlets of a file
+-- R and C, the rest after the rows, the codes and the outlets of a file, and its content
 abbrev pub fileRows : List ℕ → ℕ
 fileRows file = numberAt 2 file
 
@@ -72,14 +74,20 @@ fileCodes file = codesFrom (fileCols file) (fileRows file) (drop 6 file)
 abbrev pub fileOutlets : List ℕ → List ℕ
 fileOutlets file = outletsFrom (fileCols file) (outletCount 257 (fileTail file)) (fileTail file)
 
+abbrev pub fileContent : List ℕ → Content
+fileContent file = content (fileRows file) (fileCols file) (fileCodes file) (fileOutlets file)
+
 -- ---- the checks
 
 -- 2: R and C are from 1 to 64 each
 abbrev pub isSheetSide : ℕ → Bool
 isSheetSide n = leb 1 n && leb n 64
 
+abbrev pub areSheetSides : ℕ → ℕ → Bool
+areSheetSides rows cols = isSheetSide rows && isSheetSide cols
+
 abbrev pub check2 : ℕ → ℕ → Check
-check2 rows cols = check 2 (isSheetSide rows && isSheetSide cols)
+check2 rows cols = check 2 (areSheetSides rows cols)
 
 -- a row: 4, is its record whole, with mark and row number right? 5, are its codes among the nine?
 abbrev pub rowChecks : ℕ → ℕ → List ℕ → List Check
@@ -91,8 +99,8 @@ module _ (rows cols : ℕ) where
   outletChecks rest =
       check 6 (isOutlet rest) ∷ check 7 (ltb (numberAt 2 rest) rows && ltb (numberAt 4 rest) cols) ∷ []
 
-  -- after the rows, where the end is one of the next n records, or there are too many outlets, 8. After the end record the
-  -- file is over, 9
+  -- after the rows, where the end is one of the next n records, or there are too many outlets, 8. After the end record
+  -- the file is over, 9
   unfoldable pub tailChecks : ℕ → List ℕ → List Check
   tailChecks zero rest = check 8 false ∷ []
   tailChecks (suc n) rest =
@@ -135,3 +143,24 @@ module _ (file grid list : List ℕ) where
 
   unfoldable pub readLeavesOutlets : List ℕ
   readLeavesOutlets = cond isSheet (overlaid (fileOutlets file) list) list
+
+pub record Reads (file grid list : List ℕ) (r : Sheet) (newGrid newList : List ℕ) : Type 0 where
+  pub answers : r ≡ readAnswer file (length grid) (length list)
+  pub codes : newGrid ≡ readLeavesCodes file grid list
+  pub outlets : newList ≡ readLeavesOutlets file grid list
+
+module _ (file grid list : List ℕ) where
+  abbrev pub readSheet : Sheet
+  readSheet = readAnswer file (length grid) (length list)
+
+  -- the outlets that are left: as many places of the list as the answer counts
+  abbrev pub readOutlets : List ℕ
+  readOutlets = take (readSheet .outlets) (readLeavesOutlets file grid list)
+
+  -- what is left, as a content to write again: of the codes in the grid the first R × C count
+  abbrev pub leftContent : Content
+  leftContent = content (readSheet .rows) (readSheet .cols) (readLeavesCodes file grid list) readOutlets
+
+  -- and without the others
+  abbrev pub readContent : Content
+  readContent = lentContent leftContent

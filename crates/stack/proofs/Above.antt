@@ -10,11 +10,11 @@ use native.Mathlib.Omega.{arith}
 use lib.ListN.{length}
 use Rattle.lengths.specs.declared.Length.{Length}
 use Rattle.lengths.specs.Rule.{plusStep}
-use Rattle.ground.specs.Lists.{Every}
+use Rattle.lists.specs.Lists.{Every}
 use Rattle.ground.specs.Compass.{Dir, E, opposite, stepOf, squares}
 use Rattle.ground.specs.Grid.{Grid, ground}
 use Rattle.ground.specs.Accumulation.{agrees, subaccumulation}
-use Rattle.ground.specs.Moves.{leadOf, leadBy}
+use Rattle.moves.specs.Moves.{leadOf, leadBy}
 use Rattle.ground.proofs.Cells.{ground-within, points-flow}
 use Rattle.ground.proofs.Ground.{sub-size}
 use Rattle.search.specs.Search.{State, firstRule, drops, dropCells}
@@ -22,7 +22,10 @@ use Rattle.search.specs.Neighbours.{inflowIn, cellsIn, turnTo, enter}
 use Rattle.search.proofs.Neighbours.{Found, found-in, found-ground, turn-done, turn-none, turn-drops, turn-enters}
 use Rattle.stack.specs.declared.Pending.{Pending}
 use Rattle.stack.specs.Pending.{pendingOf, inflowsAbove}
-use Rattle.stack.specs.Draining.{stepBy, ownLength, cellOf, cellsPending, Waits, taken, drain}
+use Rattle.moves.specs.Moves.{stepBy}
+use Rattle.upstream.specs.Ready.{ownLength}
+use Rattle.upstream.proofs.Entering.{own-step}
+use Rattle.stack.specs.Draining.{cellOf, cellsPending, Waits, taken, drain}
 
 module _ (g : Grid) (outlets : List ℕ) where
   abbrev sub : ℕ → ℕ
@@ -88,10 +91,6 @@ module _ (g : Grid) (outlets : List ℕ) where
         solid : ground g y ≡ true
         solid = found-ground g outlets x d y f
 
-        own-step : ownLength g y len ≡ plusStep len (stepOf (opposite d))
-        unfolding leadOf
-        own-step = ap (λ o. plusStep len (stepBy (leadBy o))) (points-flow g (opposite d) y (f .flows))
-
         turned : (dropping : Bool) (ds : List Dir) (st : State squares)
             → turnTo squares (firstRule squares dropping) g outlets (d ∷ ds) x len st
             ≡ turnTo squares (firstRule squares dropping) g outlets ds x len (taken g outlets dropping y len st)
@@ -106,7 +105,8 @@ module _ (g : Grid) (outlets : List ℕ) where
             by-test false e = turn-enters squares (firstRule squares dropping) g outlets x d ds len st a agreed y f e
                 ∙ ap (turnTo squares (firstRule squares dropping) g outlets ds x len)
                 (sym (taken-enters dropping y len st e
-                ∙ ap (λ (l : Length). enter squares (firstRule squares dropping) g outlets y l st) own-step))
+                ∙ ap (λ (l : Length). enter squares (firstRule squares dropping) g outlets y l st)
+                (own-step g outlets x d y f len)))
 
         cell-is : cellOf g (pendingOf (g .cols) len y) ≡ y
         cell-is = div-add-mod' y (g .cols)

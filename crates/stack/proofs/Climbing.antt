@@ -6,20 +6,20 @@ use mathlib.Core.Logic.{_⊎_, inl, inr, ⊎-elim}
 use mathlib.Core.List.{List, [], _∷_, map}
 use mathlib.Core.Option.{Option, none, some}
 use Prim.Native.Nat.{ℕ, _+_, _-_, _*_, _≤_, _<_}
-use native.Mathlib.Nat.{mul-le-mul}
 use native.Mathlib.Omega.{arith}
 use lib.ListN.{length, getD}
 use lib.Arith.{digits-lt}
 use Rattle.lengths.specs.declared.Length.{Length}
-use Rattle.ground.specs.Lists.{Every, member, sumOf}
+use Rattle.lists.specs.Lists.{Every, member, sumOf}
 use Rattle.ground.specs.Compass.{Dir, dirs, opposite}
 use Rattle.ground.specs.Grid.{Grid, gridOf, neighbour, flowsIn, inflowValue, inflowRecord}
 use Rattle.ground.specs.Accumulation.{subaccumulation}
 use Rattle.ground.proofs.Cells.{ground-within, flow-ground, points-flow}
-use Rattle.ground.proofs.Ground.{sub-places}
+use Rattle.ground.proofs.Ground.{sub-at-most}
 use Rattle.search.specs.Neighbours.{inflowIn, cellsOf, cellsIn}
 use Rattle.search.proofs.Neighbours.{cells-above}
-use Rattle.upstream.specs.Turns.{OnCell}
+use Rattle.moves.specs.Lent.{OnCell}
+use Rattle.moves.proofs.Spots.{size}
 use Rattle.upstream.specs.Ready.{Ready, OnGround}
 use Rattle.stack.specs.declared.Pending.{Pending}
 use Rattle.stack.specs.Pending.{onTop, inflowsAbove}
@@ -38,20 +38,15 @@ module _ {rows cols : ℕ} {codes outlets subs : List ℕ} (ready : Ready rows c
   sub y = subaccumulation g outlets y
 
   pub on-cell : OnCell rows cols codes row col
-  on-cell = record {
-    rows-small = ready .rows-small;
-    cols-small = ready .cols-small;
-    has-codes = ready .has-codes;
-    row-in = at .row-in;
-    col-in = at .col-in;
-  }
+  on-cell = record { grid = ready .grid; row-in = at .row-in; col-in = at .col-in }
 
   -- its number is an index, and small
-  pub indexed : (x < rows * cols) × (rows * cols ≤ 16777216) × (rows * cols ≤ length codes) × (rows * cols ≤ length subs)
+  pub indexed : (x < rows * cols) × (rows * cols ≤ 16777216) × (rows * cols ≤ length codes)
+      × (rows * cols ≤ length subs)
   indexed = (
     digits-lt (at .row-in) (at .col-in),
-    mul-le-mul (ready .rows-small) (ready .cols-small),
-    ready .has-codes,
+    size (ready .grid .sides),
+    ready .grid .has-codes,
     ready .has-subs,
   )
 
@@ -59,7 +54,7 @@ module _ {rows cols : ℕ} {codes outlets subs : List ℕ} (ready : Ready rows c
   read = ready .filled x (indexed .0)
 
   pub small-cells : sub x ≤ 16777216
-  small-cells = omega (arith, sub-places g (ready .lent) (ready .agreed) outlets x (at .solid), indexed .1)
+  small-cells = omega (arith, sub-at-most g (ready .lent) (ready .agreed) outlets x (at .solid), indexed .1)
 
   pub one-cell : 1 ≤ sub x
   one-cell = some-cells g outlets (ready .lent) (ready .agreed) x (at .solid)
@@ -79,7 +74,8 @@ module _ {rows cols : ℕ} {codes outlets subs : List ℕ} (ready : Ready rows c
       cells-above g (ready .lent) (ready .agreed) outlets x (at .solid),
     )
 
-    pub all-above : (end : ℕ) → 3 * (len .straight + len .diagonal + sub x) ≤ end + 3 → Every (Waits g outlets end) above
+    pub all-above : (end : ℕ) → 3 * (len .straight + len .diagonal + sub x) ≤ end + 3
+        → Every (Waits g outlets end) above
     all-above end h = followed .all-wait end (omega (arith, cells-but-one, followed .cells))
 
     pub few-above : length above + 1 ≤ sub x
@@ -136,14 +132,16 @@ module _ {rows cols : ℕ} {codes outlets subs : List ℕ} (ready : Ready rows c
   module _ (len : Length) where
     record Alike (ds : List Dir) : Type 0 where
       no-fewer : cellsIn g outlets ds x ≤ sumOf (map value ds)
-      same : sumOf (map value ds) ≤ cellsIn g outlets ds x → inflowsAbove g [] x len ds ≡ inflowsAbove g outlets x len ds
+      same : sumOf (map value ds) ≤ cellsIn g outlets ds x
+          → inflowsAbove g [] x len ds ≡ inflowsAbove g outlets x len ds
 
     alike : (ds : List Dir) → Alike ds
     unfolding cellsIn sumOf inflowsAbove
     alike [] = record { no-fewer = omega arith; same = λ h. refl }
     alike (d ∷ ds) = ⊎-elim (λ s. same-side s (alike ds)) (λ s. outlet-side s (alike ds)) (side d)
       where
-        same-side : (inflowIn g [] x d ≡ inflowIn g outlets x d) × (value d ≡ cellsOf g outlets (inflowIn g outlets x d))
+        same-side : (inflowIn g [] x d ≡ inflowIn g outlets x d)
+            × (value d ≡ cellsOf g outlets (inflowIn g outlets x d))
             → Alike ds → Alike (d ∷ ds)
         same-side s ih = record {
           no-fewer = omega (arith, s .1, ih .no-fewer);
@@ -156,8 +154,8 @@ module _ {rows cols : ℕ} {codes outlets subs : List ℕ} (ready : Ready rows c
           same = λ h. absurd (omega (arith, s .0, s .1, ih .no-fewer));
         }
 
-    pub no-outlet : sumOf (inflowRecord g subs x) ≡ sub x - 1
+    pub no-outlet : {values : List ℕ} → values ≡ inflowRecord g subs x → {n : ℕ} → n ≡ sub x → sumOf values ≡ n - 1
         → inflowsAbove g [] x len dirs ≡ inflowsAbove g outlets x len dirs
     unfolding inflowRecord
-    no-outlet e = alike dirs .same
-        (omega (arith, e, cells-above g (ready .lent) (ready .agreed) outlets x (at .solid)))
+    no-outlet v {n} is-n e = alike dirs .same
+        (omega (arith, ap sumOf v, e, is-n, cells-above g (ready .lent) (ready .agreed) outlets x (at .solid)))

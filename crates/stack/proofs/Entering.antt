@@ -8,7 +8,7 @@ use native.Mathlib.Omega.{arith}
 use lib.ListN.{length}
 use lib.Dec.{eqb}
 use Rattle.lengths.specs.declared.Length.{Length}
-use Rattle.ground.specs.Lists.{Every}
+use Rattle.lists.specs.Lists.{Every}
 use Rattle.ground.specs.Compass.{dirs, squares}
 use Rattle.ground.specs.Grid.{Grid, gridOf}
 use Rattle.ground.specs.Accumulation.{subaccumulation}
@@ -52,7 +52,7 @@ module _ {rows cols : ℕ} {codes outlets subs : List ℕ} (ready : Ready rows c
     )
 
     module _ {n : ℕ} (is-n : n ≡ sub x) {len : Length} {q : Progress} {mid : List ℕ}
-        (v : Visited old mid end x n len p q) where
+        (v : Visited old mid end x (eqb n 1) len p q) where
       pub entered : {r : ℕ} {new : List ℕ} → PutOn (inflowsAbove g outlets x len dirs) top mid r new
           → Entered g outlets x len end p top old (record { progress = q; top = r }) new
       entered {r} {new} put =
@@ -84,7 +84,8 @@ module _ {rows cols : ℕ} {codes outlets subs : List ℕ} (ready : Ready rows c
     above = inflowsAbove g outlets x len dirs
 
     -- one cell is visited
-    pub cells-left : cellsPending g outlets (pending new (r .top)) + 1 ≡ sub x + cellsPending g outlets (pending old top)
+    pub cells-left : cellsPending g outlets (pending new (r .top)) + 1
+        ≡ sub x + cellsPending g outlets (pending old top)
     cells-left = omega (
       arith,
       ap (cellsPending g outlets) (e .pending-is),
@@ -102,7 +103,8 @@ module _ {rows cols : ℕ} {codes outlets subs : List ℕ} (ready : Ready rows c
         ∙ ap (drain g outlets dropping (pending old top))
         (sym (followed ready at len .drains dropping (stateOf (r .progress) new end))
         ∙ ap (turnTo squares (firstRule squares dropping) g outlets dirs x len) (e .state
-        ∙ sym (visit-is squares dropping g outlets (ready .lent) (ready .agreed) (stateOf p old end) x len (at .solid))))
+        ∙ sym (visit-is squares dropping g outlets (ready .lent) (ready .agreed) (stateOf p old end) x len
+        (at .solid))))
 
     pub stands : Every (Waits g outlets end) (pending old top)
         → 3 * (p .visited + p .dropped + (sub x + cellsPending g outlets (pending old top))) ≡ end

@@ -12,7 +12,7 @@ use lib.Arith.{digits-div, digits-mod}
 use Rattle.lengths.specs.declared.Length.{Length}
 use Rattle.ground.specs.Compass.{Dir, NE, dirs}
 use Rattle.ground.specs.Grid.{Grid}
-use Rattle.ground.specs.Moves.{dirAt}
+use Rattle.moves.specs.Moves.{dirAt}
 use Rattle.search.specs.Neighbours.{inflowIn}
 use Rattle.stack.specs.declared.Pending.{Pending}
 use Rattle.stack.specs.Pending.{pendingAt, pending, pendingWith, pendingOf, onTop, inflowsAbove, PutOn}

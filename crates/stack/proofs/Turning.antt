@@ -1,55 +1,47 @@
 -- One pending cell is taken off: it is dropped or entered, and the rest of the search is the same.
 -- Assumes nothing.
 use mathlib.Core.Path.{_≡_, refl, sym, ap, _∙_, subst}
-use mathlib.Core.Bool.{Bool, true, false}
+use mathlib.Core.Bool.{Bool, true, false, _&&_}
 use mathlib.Core.List.{List, _∷_, map}
 use Prim.Native.Nat.{ℕ, _+_, _-_, _*_, _≤_, _<_, _^_}
 use native.Mathlib.Omega.{arith}
 use lib.ListN.{length, getD}
 use lib.Arith.{digits-lt}
-use Rattle.lengths.specs.declared.Step.{Step}
-use Rattle.lengths.specs.declared.Step.the-variants.{Straight, Diagonal}
 use Rattle.lengths.specs.declared.Length.{Length}
 use Rattle.lengths.specs.Rule.{counts, plusStep}
-use Rattle.ground.specs.Lists.{Every}
+use Rattle.lengths.specs.Lengths.{squareCells, farthest}
+use Rattle.lists.specs.Lists.{Every}
 use Rattle.ground.specs.Compass.{Dir, E, squares}
 use Rattle.ground.specs.Grid.{Grid, gridOf}
 use Rattle.ground.specs.Accumulation.{subaccumulation}
-use Rattle.ground.specs.Moves.{leadOf}
+use Rattle.moves.specs.Moves.{leadOf}
 use Rattle.ground.specs.Forest.{forest}
 use Rattle.ground.proofs.Cells.{code-inside}
-use Rattle.search.specs.Search.{State, firstRule, drops, dropCells, searchFrom}
+use Rattle.search.specs.Search.{State, firstRule, belowGreatest, drops, dropCells, searchFrom}
 use Rattle.search.specs.Neighbours.{enter}
 use Rattle.search.proofs.Neighbours.{search-enters}
 use Rattle.progress.specs.declared.Progress.{Progress}
-use Rattle.progress.specs.Starts.{kept, begun, startAt, stateOf}
-use Rattle.progress.proofs.Kept.{kept-length}
-use Rattle.upstream.specs.Ready.{Ready, OnGround}
+use Rattle.progress.specs.Starts.{kept, begun, isBelow, stateOf}
+use Rattle.progress.proofs.Kept.{below-starts}
+use Rattle.upstream.specs.Ready.{Ready, OnGround, ownLength}
+use Rattle.upstream.proofs.Entering.{one-step, drops-by}
 use Rattle.stack.specs.declared.Pending.{Pending}
 use Rattle.stack.specs.declared.Stack.{Stack}
 use Rattle.stack.specs.Pending.{pendingAt, pending}
-use Rattle.stack.specs.Draining.{
-  stepBy,
-  ownLength,
-  cellsPending,
-  Waits,
-  Standing,
-  taken,
-  drain,
-  Turned,
-  Traced,
-  Entered,
-  Fits,
-}
+use Rattle.moves.specs.Moves.{stepBy}
+use Rattle.stack.specs.Draining.{cellsPending, Waits, Standing, taken, drain}
+use Rattle.stack.specs.Draining.{Turned, Traced, Entered, Fits}
 use Rattle.stack.proofs.Putting.{pending-length, taken-off}
 use Rattle.stack.proofs.Above.{taken-drops, taken-enters, few-pending}
 use Rattle.stack.proofs.Climbing.{one-cell, small-cells}
 use Rattle.stack.proofs.Entering.{cells-left, drained, stands}
 
--- a step is one step more
-one-step : (l : Length) (s : Step) → (plusStep l s) .straight + (plusStep l s) .diagonal ≡ l .straight + l .diagonal + 1
-one-step l Straight = omega arith
-one-step l Diagonal = omega arith
+-- turn after turn the rest of the search is the same
+pub drains-on : {g : Grid} {outlets : List ℕ} {dropping : Bool} {end : ℕ} {s : Stack} {old : List ℕ} {r : Stack}
+    {new : List ℕ} {st : State squares} → Turned g outlets dropping end s old r new
+    → drain g outlets dropping (pending old (s .top)) (stateOf (s .progress) old end) ≡ st
+    → drain g outlets dropping (pending new (r .top)) (stateOf (r .progress) new end) ≡ st
+drains-on t e = t .drains ∙ e
 
 module _ {rows cols : ℕ} {codes outlets subs : List ℕ} (ready : Ready rows cols codes outlets subs) where
   abbrev g : Grid
@@ -61,9 +53,9 @@ module _ {rows cols : ℕ} {codes outlets subs : List ℕ} (ready : Ready rows c
   -- ---- one turn
 
   module _ {end : ℕ} {s : Stack} {old : List ℕ} (standing : Standing g outlets end s old) (some-left : 0 < s .top) where
-    -- the pending cells have their places
-    pub places : 3 * (s .top + s .progress .visited) ≤ end
-    places = omega (
+    -- there is room for the pending cells
+    pub pending-room : 3 * (s .top + s .progress .visited) ≤ end
+    pending-room = omega (
       arith,
       few-pending g outlets (ready .lent) (ready .agreed) end (pending old (s .top)) (standing .all-wait),
       pending-length old (s .top),
@@ -119,13 +111,14 @@ module _ {rows cols : ℕ} {codes outlets subs : List ℕ} (ready : Ready rows c
           )
 
       module _ (dropping : Bool) {n : ℕ} (is-n : n ≡ sub y) {b : Bool}
-          (tests : (t : Dir) (cs : List ℕ) → length cs ≡ s .progress .paths → b ≡ drops squares
-          (firstRule squares dropping) (map (startAt (s .progress .greatest)) cs) (w .below) t n) where
+          {limit : Length} (is-limit : limit ≡ farthest squareCells (w .below) n)
+          (tests : b ≡ (dropping && isBelow limit (s .progress))) where
         abbrev state : State squares
         state = stateOf (s .progress) old end
 
         test : b ≡ drops squares (firstRule squares dropping) (state .starts) (w .below) E (sub y)
-        test = tests E (kept old end (s .progress .paths)) (kept-length old end (s .progress .paths))
+        test = tests ∙ ap (λ (x : Bool). dropping && x) (below-starts limit (s .progress) old end)
+            ∙ drops-by dropping (state .starts) (w .below) E n is-limit
             ∙ ap (drops squares (firstRule squares dropping) (state .starts) (w .below) E) is-n
 
         first-taken : drain g outlets dropping (pending old (s .top)) state
@@ -192,10 +185,12 @@ module _ {rows cols : ℕ} {codes outlets subs : List ℕ} (ready : Ready rows c
     outlet-fits is-end is-p h = rw is-p
         (record { room = omega arith; within = h; few-visited = omega arith; few-paths = omega arith })
 
-    module _ {end : ℕ} (is-end : end ≡ 3 * sub o) {p : Progress} (is-p : p ≡ begun) {old : List ℕ} {r : Stack}
-        {new : List ℕ} (enters : Entered g outlets o (counts 0 0) end p 0 old r new) where
+    module _ {end : ℕ} (is-end : end ≡ 3 * sub o) {p : Progress} (is-p : p ≡ begun)
+        {len : Length} (is-len : len ≡ counts 0 0) {old : List ℕ} {r : Stack} {new : List ℕ}
+        (enters : Entered g outlets o len end p 0 old r new) where
       into : Entered g outlets o (counts 0 0) end begun 0 old r new
-      into = subst (λ q. Entered g outlets o (counts 0 0) end q 0 old r new) is-p enters
+      into = subst (λ q. Entered g outlets o (counts 0 0) end q 0 old r new) is-p
+          (subst (λ l. Entered g outlets o l end p 0 old r new) is-len enters)
 
       pub outlet-stands : end ≤ length new → Standing g outlets end r new
       unfolding pending cellsPending
@@ -207,7 +202,8 @@ module _ {rows cols : ℕ} {codes outlets subs : List ℕ} (ready : Ready rows c
           ≡ searchFrom squares (firstRule squares dropping) o (forest g outlets o)
       unfolding pending drain kept
       outlet-drains dropping = drained ready at into dropping
-          ∙ sym (search-enters squares (firstRule squares dropping) g outlets (ready .lent) (ready .agreed) o (at .solid))
+          ∙ sym (search-enters squares (firstRule squares dropping) g outlets (ready .lent) (ready .agreed) o
+          (at .solid))
 
     -- none is pending: all is traced
     pub traced : {end : ℕ} → end ≡ 3 * sub o → (dropping : Bool) {s : Stack} (old : List ℕ) {work : List ℕ}

@@ -10,30 +10,22 @@ use Rattle.lengths.specs.declared.Step.{Step}
 use Rattle.lengths.specs.declared.Step.the-variants.{Straight}
 use Rattle.lengths.specs.declared.Length.{Length}
 use Rattle.lengths.specs.Rule.{plusStep}
-use Rattle.ground.specs.declared.Lead.{Lead}
-use Rattle.ground.specs.declared.Lead.the-variants.{Nowhere, By}
-use Rattle.ground.specs.Lists.{Every}
+use Rattle.moves.specs.declared.Lead.{Lead}
+use Rattle.moves.specs.declared.Lead.the-variants.{Nowhere, By}
+use Rattle.lists.specs.Lists.{Every}
 use Rattle.ground.specs.Compass.{E, dirs, squares}
-use Rattle.ground.specs.Grid.{Grid, codeAt, ground}
+use Rattle.ground.specs.Grid.{Grid, gridOf, ground}
 use Rattle.ground.specs.Accumulation.{subaccumulation}
-use Rattle.ground.specs.Moves.{leadOf}
+use Rattle.moves.specs.Moves.{leadOf}
+use Rattle.search.specs.Tracing.{numbersEach}
 use Rattle.search.specs.Search.{State, meetIf, firstRule, drops, dropCells}
 use Rattle.search.specs.Neighbours.{enter}
 use Rattle.progress.specs.declared.Progress.{Progress}
 use Rattle.progress.specs.Starts.{startAt, startsOf, stateOf}
-use Rattle.upstream.specs.Ready.{Searched}
+use Rattle.upstream.specs.Ready.{ownLength, Searched}
 use Rattle.stack.specs.declared.Pending.{Pending}
 use Rattle.stack.specs.declared.Stack.{Stack}
 use Rattle.stack.specs.Pending.{pending, inflowsAbove}
-
--- the step of a lead
-abbrev pub stepBy : Lead → Step
-stepBy Nowhere = Straight
-stepBy (By m) = m .step
-
--- the length of a cell above this one, by its own code
-abbrev pub ownLength : Grid → ℕ → Length → Length
-ownLength g y below = plusStep below (stepBy (leadOf (codeAt g y)))
 
 abbrev pub cellOf : Grid → Pending → ℕ
 cellOf g w = w .row * g .cols + w .col
@@ -44,24 +36,25 @@ module _ (g : Grid) (outlets : List ℕ) where
   cellsPending [] = 0
   cellsPending (w ∷ ws) = subaccumulation g outlets (cellOf g w) + cellsPending ws
 
-  -- a cell of ground waits; the length below it and all its cells fit, three numbers for each
+  -- a cell of ground waits; the length below it and all its cells fit
   pub record Waits (end : ℕ) (w : Pending) : Type 0 where
     pub row-in : w .row < g .rows
     pub col-in : w .col < g .cols
     pub solid : ground g (cellOf g w) ≡ true
-    pub short : 3 * (w .below .straight + w .below .diagonal + subaccumulation g outlets (cellOf g w)) ≤ end
+    pub short : numbersEach * (w .below .straight + w .below .diagonal + subaccumulation g outlets (cellOf g w)) ≤ end
 
   -- all cells of the search are visited, dropped or pending
   pub record Standing (end : ℕ) (s : Stack) (work : List ℕ) : Type 0 where
     pub all-wait : Every (Waits end) (pending work (s .top))
-    pub all-cells : 3 * (s .progress .visited + s .progress .dropped + cellsPending (pending work (s .top))) ≡ end
+    pub all-cells : numbersEach * (s .progress .visited + s .progress .dropped + cellsPending (pending work (s .top)))
+        ≡ end
     pub few-paths : s .progress .paths ≤ s .progress .visited
-    pub small : end ≤ 3 * 2 ^ 24
+    pub small : end ≤ numbersEach * 2 ^ 24
     pub within : end ≤ length work
 
   module _ (dropping : Bool) where
-    -- what the search does with a cell above this length: it drops or enters it. 01's limit is the same for any step, so
-    -- the test takes one of them
+    -- what the search does with a cell above this length: it drops or enters it. 01's limit is the same for any step,
+    -- so the test takes one of them
     unfoldable pub taken : ℕ → Length → State squares → State squares
     taken y below st = elim (drops squares (firstRule squares dropping) (st .starts) below E
         (subaccumulation g outlets y)) [
@@ -84,8 +77,8 @@ module _ (g : Grid) (outlets : List ℕ) where
 
     -- the whole search, with the starts before the end
     pub record Traced (o : ℕ) (old : List ℕ) (r : Progress) (new : List ℕ) : Type 0 where
-      pub searched : Searched g outlets dropping o (3 * subaccumulation g outlets o) r new
-      pub beyond : (i : ℕ) → 3 * subaccumulation g outlets o ≤ i → getD new i 0 ≡ getD old i 0
+      pub searched : Searched g outlets dropping o (numbersEach * subaccumulation g outlets o) r new
+      pub beyond : (i : ℕ) → numbersEach * subaccumulation g outlets o ≤ i → getD new i 0 ≡ getD old i 0
 
   -- a cell was visited, and its inflows wait
   pub record Entered (x : ℕ) (len : Length) (end : ℕ) (p : Progress) (top : ℕ) (old : List ℕ) (r : Stack)
@@ -101,7 +94,21 @@ module _ (g : Grid) (outlets : List ℕ) where
 
 -- there is room for so many cells more
 pub record Fits (cells end : ℕ) (p : Progress) (top : ℕ) (work : List ℕ) : Type 0 where
-  pub room : 3 * (top + cells) + p .paths ≤ end
+  pub room : numbersEach * (top + cells) + p .paths ≤ end
   pub within : end ≤ length work
   pub few-visited : p .visited < 2 ^ 24
   pub few-paths : p .paths < 2 ^ 24
+
+-- the same by the sizes, codes and outlets that the functions are handed
+module _ (rows cols : ℕ) (codes outlets : List ℕ) where
+  abbrev pub CellEntered : ℕ → ℕ → Length → ℕ → Progress → ℕ → List ℕ → Stack → List ℕ → Type 0
+  CellEntered row col = Entered (gridOf rows cols codes) outlets (row * cols + col)
+
+  abbrev pub StackStands : ℕ → Stack → List ℕ → Type 0
+  StackStands = Standing (gridOf rows cols codes) outlets
+
+  abbrev pub StackTurned : Bool → ℕ → Stack → List ℕ → Stack → List ℕ → Type 0
+  StackTurned = Turned (gridOf rows cols codes) outlets
+
+  abbrev pub StackTraced : Bool → ℕ → ℕ → List ℕ → Progress → List ℕ → Type 0
+  StackTraced dropping row col = Traced (gridOf rows cols codes) outlets dropping (row * cols + col)

@@ -7,8 +7,9 @@ use Prim.Native.Nat.{ℕ, zero, suc, _+_, _*_, _/_, _%_, _≤_}
 use lib.ListN.{length, getD}
 use Rattle.lengths.specs.declared.Length.{Length}
 use Rattle.lengths.specs.Rule.{counts}
-use Rattle.ground.specs.Compass.{Dir}
-use Rattle.ground.specs.Grid.{Grid}
+use Rattle.ground.specs.Compass.{Dir, dirs}
+use Rattle.ground.specs.Grid.{Grid, gridOf}
+use Rattle.search.specs.Tracing.{numbersEach}
 use Rattle.search.specs.Neighbours.{inflowIn}
 use Rattle.stack.specs.declared.Pending.{Pending}
 
@@ -16,10 +17,10 @@ use Rattle.stack.specs.declared.Pending.{Pending}
 abbrev pub pendingWith : ℕ → ℕ → Length → Pending
 pendingWith row col below = record { row = row; col = col; below = below }
 
--- the pending cell of the three numbers at 3n
+-- the pending cell above n others
 abbrev pub pendingAt : List ℕ → ℕ → Pending
-pendingAt work n = pendingWith (getD work (3 * n) 0 / 4096) (getD work (3 * n) 0 % 4096)
-    (counts (getD work (3 * n + 1) 0) (getD work (3 * n + 2) 0))
+pendingAt work n = pendingWith (getD work (numbersEach * n) 0 / 4096) (getD work (numbersEach * n) 0 % 4096)
+    (counts (getD work (numbersEach * n + 1) 0) (getD work (numbersEach * n + 2) 0))
 
 -- the first n of them, the last on top
 unfoldable pub pending : List ℕ → ℕ → List Pending
@@ -40,8 +41,12 @@ unfoldable pub inflowsAbove : Grid → List ℕ → ℕ → Length → List Dir 
 inflowsAbove g outlets x len [] = []
 inflowsAbove g outlets x len (d ∷ ds) = onTop (g .cols) len (inflowIn g outlets x d) (inflowsAbove g outlets x len ds)
 
+-- in all directions, from a cell by its row and column
+abbrev pub allAbove : ℕ → ℕ → List ℕ → List ℕ → ℕ → ℕ → Length → List Pending
+allAbove rows cols codes outlets row col len = inflowsAbove (gridOf rows cols codes) outlets (row * cols + col) len dirs
+
 -- these were put on n pending cells; there are r now, and nothing beyond them changed
 pub record PutOn (ws : List Pending) (n : ℕ) (old : List ℕ) (r : ℕ) (new : List ℕ) : Type 0 where
   pub pending-is : pending new r ≡ ws ++ pending old n
   pub count : r ≡ n + length ws
-  pub beyond : (i : ℕ) → 3 * r ≤ i → getD new i 0 ≡ getD old i 0
+  pub beyond : (i : ℕ) → numbersEach * r ≤ i → getD new i 0 ≡ getD old i 0

@@ -1,30 +1,28 @@
 // The search from pending cells, which stand at the front of the lent working space.
-use ground::Lead;
-use ground::Spot;
-use ground::index_of;
-use ground::inflows_of;
-use ground::lead_of;
+use inflows::inflows_of;
 use lengths::Length;
-use lengths::Step;
-use lengths::wide;
+use lists::index_of;
+use lists::wide;
+use moves::Spot;
+use moves::step_of;
 use progress::Progress;
 use progress::begin;
 use progress::drop_cells;
 use progress::is_dropped;
 use progress::visit;
-use upstream::inflow_from;
+use upstream::tributary_from;
 ghost use mathlib.Core.Path.{_≡_};
-ghost use mathlib.Core.List.{List, [], _∷_};
-ghost use Prim.Native.Nat.{ℕ, _+_, _*_, _≤_, _<_, _^_};
-ghost use lib.ListN.{length, getD};
-ghost use Rattle.ground.specs.Compass.{dirs};
-ghost use Rattle.ground.specs.Grid.{gridOf};
-ghost use Rattle.ground.specs.Accumulation.{subaccumulation};
-ghost use Rattle.ground.specs.Moves.{leadOf};
-ghost use Rattle.upstream.specs.Turns.{OnCell};
-ghost use Rattle.upstream.specs.Ready.{Ready, OnGround, Searched};
-ghost use Rattle.stack.specs.Pending.{pendingAt, pendingWith, inflowsAbove, PutOn};
-ghost use Rattle.stack.specs.Draining.{stepBy, Fits, Entered, Standing, Turned, Traced};
+ghost use mathlib.Core.List.{[], _∷_};
+ghost use Prim.Native.Nat.{_+_, _*_, _≤_, _<_};
+ghost use lib.ListN.{length};
+ghost use Rattle.search.specs.Tracing.{numbersEach};
+ghost use Rattle.moves.specs.Lent.{OnCell};
+ghost use Rattle.upstream.specs.Ready.{Ready, OnGround, cellsAt};
+ghost use Rattle.stack.specs.Pending.{pendingAt, pendingWith, allAbove, PutOn};
+ghost use Rattle.stack.specs.Draining.{Fits, CellEntered, StackStands, StackTurned, StackTraced};
+
+// How many numbers of the working space a pending cell takes, and how many are asked for each cell.
+pub const NUMBERS_EACH: usize = 3;
 
 // A cell that waits, and the length of the cell below it.
 pub struct Pending {
@@ -39,31 +37,30 @@ pub struct Stack {
     pub top: usize,
 }
 
-// The pending cell above n others. It takes three numbers: its place, row × 4,096 + column, and the counts of the length
-// below it.
+// The pending cell above n others. Its numbers are row × 4,096 + column, and the counts of the length below it.
 fn pending_at(work: &[u32], n: usize) -> Pending
-    requires { ⌜ 3 * (n + 1) ≤ length (now work) ⌝ }
+    requires { ⌜ numbersEach * (n + 1) ≤ length (now work) ⌝ }
     ensures { λ r. ⌜ r ≡ pendingAt (now (work .entry)) n ⌝ }
 {
-    let at = 3 * n;
-    let place = index_of(work[at]);
+    let at = NUMBERS_EACH * n;
+    let cell = index_of(work[at]);
     let below = Length {
         straight: work[at + 1],
         diagonal: work[at + 2],
     };
     Pending {
-        row: place / 4096,
-        col: place % 4096,
+        row: cell / 4096,
+        col: cell % 4096,
         below,
     }
 }
 
 // A cell is put on n others.
 fn put(work: &mut [u32], n: usize, row: usize, col: usize, below: Length) -> usize
-    requires { ⌜ (3 * (n + 1) ≤ length (now work)) × (row < 4096) × (col < 4096) ⌝ }
+    requires { ⌜ (numbersEach * (n + 1) ≤ length (now work)) × (row < 4096) × (col < 4096) ⌝ }
     ensures { λ r. ⌜ PutOn (pendingWith row col below ∷ []) n (now (work .entry)) r (now (work .exit)) ⌝ }
 {
-    let at = 3 * n;
+    let at = NUMBERS_EACH * n;
     work[at] = (row * 4096 + col) as u32;
     work[at + 1] = below.straight;
     work[at + 2] = below.diagonal;
@@ -83,14 +80,16 @@ fn put_inflows(
     work: &mut [u32],
 ) -> usize
     requires { ⌜ OnCell rows cols (now codes) row col ⌝ }
-    requires { ⌜ 3 * (top + length (inflowsAbove (gridOf rows cols (now codes)) (now outlets) (row * cols + col) len dirs)) ≤ length (now work) ⌝ }
-    ensures { λ r. ⌜ PutOn (inflowsAbove (gridOf rows cols (now (codes .entry))) (now (outlets .entry)) (row * cols + col) len dirs) top (now (work .entry)) r (now (work .exit)) ⌝ }
+    requires { ⌜ numbersEach * (top + length (allAbove rows cols (now codes) (now outlets) row col len))
+        ≤ length (now work) ⌝ }
+    ensures { λ r. ⌜ PutOn (allAbove rows cols (now (codes .entry)) (now (outlets .entry)) row col len) top
+        (now (work .entry)) r (now (work .exit)) ⌝ }
 {
     let mut at = top;
     let mut left: usize = 8;
     while 0 < left {
         left -= 1;
-        if let Spot::On { row: r, col: c } = inflow_from(
+        if let Spot::On { row: r, col: c } = tributary_from(
             rows,
             cols,
             codes,
@@ -105,14 +104,15 @@ fn put_inflows(
     at
 }
 
-// The inflows of a cell of n cells are put on. A headwater has none. A short list of outlets is looked through; of a long
-// one, nothing is looked for where the subaccumulations of all that flows in add up to those cells: no outlet flows in.
+// The inflows of a cell of n cells are put on. A headwater has none. A short list of outlets is looked through; of a
+// long one, nothing is looked for where the subaccumulations of all that flows in add up to those cells: no outlet
+// flows in.
 fn climb(
     rows: usize,
     cols: usize,
     codes: &[u8],
     outlets: &[u32],
-    subs: &[u32],
+    subaccumulation: &[u32],
     row: usize,
     col: usize,
     n: u32,
@@ -120,10 +120,12 @@ fn climb(
     top: usize,
     work: &mut [u32],
 ) -> usize
-    requires { ⌜ Ready rows cols (now codes) (now outlets) (now subs) ⌝ }
+    requires { ⌜ Ready rows cols (now codes) (now outlets) (now subaccumulation) ⌝ }
     requires { ⌜ OnGround rows cols (now codes) row col ⌝ }
-    requires { ⌜ (n ≡ subaccumulation (gridOf rows cols (now codes)) (now outlets) (row * cols + col)) × (3 * (top + n) ≤ length (now work)) ⌝ }
-    ensures { λ r. ⌜ PutOn (inflowsAbove (gridOf rows cols (now (codes .entry))) (now (outlets .entry)) (row * cols + col) len dirs) top (now (work .entry)) r (now (work .exit)) ⌝ }
+    requires { ⌜ (n ≡ cellsAt rows cols (now codes) (now outlets) row col)
+        × (numbersEach * (top + n) ≤ length (now work)) ⌝ }
+    ensures { λ r. ⌜ PutOn (allAbove rows cols (now (codes .entry)) (now (outlets .entry)) row col len) top
+        (now (work .entry)) r (now (work .exit)) ⌝ }
 {
     if n == 1 {
         return top;
@@ -132,7 +134,7 @@ fn climb(
         return put_inflows(rows, cols, codes, outlets, row, col, len, top, work);
     }
     let none = &outlets[..0];
-    if inflows_of(rows, cols, codes, subs, row, col).sum() == wide(n - 1) {
+    if inflows_of(rows, cols, codes, subaccumulation, row, col).sum() == wide(n - 1) {
         return put_inflows(rows, cols, codes, none, row, col, len, top, work);
     }
     put_inflows(rows, cols, codes, outlets, row, col, len, top, work)
@@ -144,7 +146,7 @@ fn enter_cell(
     cols: usize,
     codes: &[u8],
     outlets: &[u32],
-    subs: &[u32],
+    subaccumulation: &[u32],
     row: usize,
     col: usize,
     len: Length,
@@ -153,20 +155,21 @@ fn enter_cell(
     top: usize,
     work: &mut [u32],
 ) -> Stack
-    requires { ⌜ Ready rows cols (now codes) (now outlets) (now subs) ⌝ }
+    requires { ⌜ Ready rows cols (now codes) (now outlets) (now subaccumulation) ⌝ }
     requires { ⌜ OnGround rows cols (now codes) row col ⌝ }
-    requires { ⌜ Fits (subaccumulation (gridOf rows cols (now codes)) (now outlets) (row * cols + col)) end p top (now work) ⌝ }
-    ensures { λ r. ⌜ Entered (gridOf rows cols (now (codes .entry))) (now (outlets .entry)) (row * cols + col) len end p top (now (work .entry)) r (now (work .exit)) ⌝ }
+    requires { ⌜ Fits (cellsAt rows cols (now codes) (now outlets) row col) end p top (now work) ⌝ }
+    ensures { λ r. ⌜ CellEntered rows cols (now (codes .entry)) (now (outlets .entry)) row col len end p top
+        (now (work .entry)) r (now (work .exit)) ⌝ }
 {
     let at = row * cols + col;
-    let n = subs[at];
-    let progress = visit(work, end, at as u32, n, len, p);
+    let n = subaccumulation[at];
+    let progress = visit(work, end, at as u32, n == 1, len, p);
     let higher = climb(
         rows,
         cols,
         codes,
         outlets,
-        subs,
+        subaccumulation,
         row,
         col,
         n,
@@ -180,14 +183,14 @@ fn enter_cell(
     }
 }
 
-// The outlet is entered. That is done once, and apart from other cells: enter_cell then has one caller, and the compiler
-// makes one loop of the whole search.
+// The outlet is entered. That is done once, and apart from other cells: enter_cell then has one caller, and the
+// compiler makes one loop of the whole search.
 fn enter_outlet(
     rows: usize,
     cols: usize,
     codes: &[u8],
     outlets: &[u32],
-    subs: &[u32],
+    subaccumulation: &[u32],
     row: usize,
     col: usize,
     len: Length,
@@ -196,31 +199,19 @@ fn enter_outlet(
     top: usize,
     work: &mut [u32],
 ) -> Stack
-    requires { ⌜ Ready rows cols (now codes) (now outlets) (now subs) ⌝ }
+    requires { ⌜ Ready rows cols (now codes) (now outlets) (now subaccumulation) ⌝ }
     requires { ⌜ OnGround rows cols (now codes) row col ⌝ }
-    requires { ⌜ Fits (subaccumulation (gridOf rows cols (now codes)) (now outlets) (row * cols + col)) end p top (now work) ⌝ }
-    ensures { λ r. ⌜ Entered (gridOf rows cols (now (codes .entry))) (now (outlets .entry)) (row * cols + col) len end p top (now (work .entry)) r (now (work .exit)) ⌝ }
+    requires { ⌜ Fits (cellsAt rows cols (now codes) (now outlets) row col) end p top (now work) ⌝ }
+    ensures { λ r. ⌜ CellEntered rows cols (now (codes .entry)) (now (outlets .entry)) row col len end p top
+        (now (work .entry)) r (now (work .exit)) ⌝ }
 {
     let at = row * cols + col;
-    let n = subs[at];
-    let visited = visit(work, end, at as u32, n, len, p);
+    let n = subaccumulation[at];
+    let visited = visit(work, end, at as u32, n == 1, len, p);
     let first = put_inflows(rows, cols, codes, outlets, row, col, len, top, work);
     Stack {
         progress: visited,
         top: first,
-    }
-}
-
-// The step down from a cell of this code.
-fn step_of(code: u8) -> Step
-    ensures { λ r. ⌜ r ≡ stepBy (leadOf code) ⌝ }
-{
-    match lead_of(code) {
-        Lead::Nowhere => Step::Straight,
-        Lead::By(m) => {
-            let step = m.step;
-            step
-        }
     }
 }
 
@@ -230,15 +221,16 @@ fn turn(
     cols: usize,
     codes: &[u8],
     outlets: &[u32],
-    subs: &[u32],
+    subaccumulation: &[u32],
     dropping: bool,
     end: usize,
     s: Stack,
     work: &mut [u32],
 ) -> Stack
-    requires { ⌜ Ready rows cols (now codes) (now outlets) (now subs) ⌝ }
-    requires { ⌜ Standing (gridOf rows cols (now codes)) (now outlets) end s (now work) × (0 < s .top) ⌝ }
-    ensures { λ r. ⌜ Turned (gridOf rows cols (now (codes .entry))) (now (outlets .entry)) dropping end s (now (work .entry)) r (now (work .exit)) ⌝ }
+    requires { ⌜ Ready rows cols (now codes) (now outlets) (now subaccumulation) ⌝ }
+    requires { ⌜ StackStands rows cols (now codes) (now outlets) end s (now work) × (0 < s .top) ⌝ }
+    ensures { λ r. ⌜ StackTurned rows cols (now (codes .entry)) (now (outlets .entry)) dropping end s
+        (now (work .entry)) r (now (work .exit)) ⌝ }
 {
     let top = s.top - 1;
     let p = s.progress;
@@ -247,8 +239,8 @@ fn turn(
     let col = w.col;
     let below = w.below;
     let at = row * cols + col;
-    let n = subs[at];
-    if is_dropped(dropping, below, n, p) {
+    let n = subaccumulation[at];
+    if is_dropped(dropping, below.farthest(n), p) {
         return Stack {
             progress: drop_cells(p, n),
             top,
@@ -260,7 +252,7 @@ fn turn(
         cols,
         codes,
         outlets,
-        subs,
+        subaccumulation,
         row,
         col,
         len,
@@ -271,35 +263,33 @@ fn turn(
     )
 }
 
-// Traces all longest paths to an outlet. Pending cells stand at the front of the working space, and the starts before the
-// end of its first numbers, three for each cell.
+// Traces all longest paths to an outlet. Of the working space it takes so many numbers for each cell: pending cells
+// stand at their front, and the starts before their end.
 pub fn trace(
     rows: usize,
     cols: usize,
     codes: &[u8],
     outlets: &[u32],
-    subs: &[u32],
+    subaccumulation: &[u32],
     dropping: bool,
     row: usize,
     col: usize,
     work: &mut [u32],
 ) -> Progress
-    requires { ⌜ Ready rows cols (now codes) (now outlets) (now subs) ⌝ }
+    requires { ⌜ Ready rows cols (now codes) (now outlets) (now subaccumulation) ⌝ }
     requires { ⌜ OnGround rows cols (now codes) row col ⌝ }
-    requires { ⌜ 3 * subaccumulation (gridOf rows cols (now codes)) (now outlets) (row * cols + col) ≤ length (now work) ⌝ }
-    ensures { λ r. ⌜ Traced (gridOf rows cols (now (codes .entry))) (now (outlets .entry)) dropping (row * cols + col) (now (work .entry)) r (now (work .exit)) ⌝ }
+    requires { ⌜ numbersEach * cellsAt rows cols (now codes) (now outlets) row col ≤ length (now work) ⌝ }
+    ensures { λ r. ⌜ StackTraced rows cols (now (codes .entry)) (now (outlets .entry)) dropping row col
+        (now (work .entry)) r (now (work .exit)) ⌝ }
 {
-    let end = 3 * index_of(subs[row * cols + col]);
-    let none = Length {
-        straight: 0,
-        diagonal: 0,
-    };
+    let end = NUMBERS_EACH * index_of(subaccumulation[row * cols + col]);
+    let none = Length::none();
     let mut s = enter_outlet(
         rows,
         cols,
         codes,
         outlets,
-        subs,
+        subaccumulation,
         row,
         col,
         none,
@@ -309,7 +299,17 @@ pub fn trace(
         work,
     );
     while 0 < s.top {
-        s = turn(rows, cols, codes, outlets, subs, dropping, end, s, work);
+        s = turn(
+            rows,
+            cols,
+            codes,
+            outlets,
+            subaccumulation,
+            dropping,
+            end,
+            s,
+            work,
+        );
     }
     s.progress
 }

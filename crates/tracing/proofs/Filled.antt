@@ -1,71 +1,82 @@
 -- What the checks 10 to 18 tell an engine, once the grid is filled.
 -- Assumes nothing.
-use mathlib.Core.Path.{_≡_, refl, sym, ap, _∙_, subst}
-use mathlib.Core.Bool.{true}
-use mathlib.Core.Logic.{inl}
-use mathlib.Core.List.{List, [], _∷_, _++_}
-use Prim.Native.Nat.{ℕ, _*_, _≤_, _<_}
+use mathlib.Core.Path.{_≡_, refl, sym, ap, _∙_}
+use mathlib.Core.Logic.{inl, inr}
+use mathlib.Core.List.{List, [], _∷_}
+use Prim.Native.Nat.{ℕ, _<_}
 use native.Mathlib.Omega.{arith}
 use lib.ListN.{length, getD}
-use Rattle.ground.specs.Grid.{Grid, gridOf}
+use Rattle.lists.specs.Slices.{overlaid}
+use Rattle.lists.proofs.Overlaid.{overlaid-length}
+use Rattle.ground.specs.Grid.{Grid, cellCount}
 use Rattle.ground.specs.Accumulation.{subaccumulation, subaccumulations}
 use Rattle.ground.proofs.Cells.{ground-within}
-use Rattle.answers.specs.Checks.{Check, firstFailed, check18}
-use Rattle.answers.proofs.Accepted.{overlaid-length}
-use Rattle.checks.proofs.Passed.{Sized, sized, Listed, chosenChecks, in-list}
-use Rattle.filling.specs.Filling.{filledIf}
+use Rattle.answers.specs.Checks.{firstFailed, check18}
+use Rattle.answers.specs.Entries.{Catchment, placeChecks}
+use Rattle.checks.proofs.Passed.{Sized, sized, Listed, in-list}
 use Rattle.filling.proofs.Fronts.{filled-at}
-use Rattle.accumulation.proofs.Subaccumulated.{good}
+use Rattle.accumulation.proofs.Subaccumulated.{lengths, good}
 use Rattle.upstream.specs.Ready.{Ready}
-use Rattle.tracing.specs.Chosen.{Chosen}
+use Rattle.tracing.specs.declared.Prepared.{Prepared}
+use Rattle.tracing.specs.Preparing.{Chosen, Prepares}
 
-module _ (rows cols : ℕ) (codes a outlets : List ℕ) (place : ℕ) (sub : List ℕ)
-    (passes : firstFailed (chosenChecks rows cols codes a (length codes ∷ length a ∷ length sub ∷ []) outlets place) ≡ 0)
-  where
-    abbrev land : Grid
-    land = gridOf rows cols codes
+module _ (c : Catchment) (place : ℕ) (sub : List ℕ)
+    (passes : firstFailed (placeChecks c place (lengths c sub)) ≡ 0) where
+  abbrev land : Grid
+  land = c .grid
 
-    abbrev outlet : ℕ
-    outlet = getD outlets place 0
+  abbrev outlet : ℕ
+  outlet = getD (c .outlets) place 0
 
-    sizes : Sized rows cols codes (length a) (length sub)
-    sizes = sized rows cols codes (length a) (length sub) _ 0 (inl (omega arith)) passes
+  sizes : Sized (land .rows) (land .cols) (land .codes) (lengths c sub)
+  sizes = sized (land .rows) (land .cols) (land .codes) (lengths c sub) _ 0 (inl (omega arith)) passes
 
-    list : Listed land a outlets
-    list = good rows cols codes a outlets sub (check18 outlets place ∷ []) passes
+  list : Listed land (c .accumulation) (c .outlets)
+  list = good c sub (check18 (c .outlets) place ∷ []) passes
 
-    pub chosen : Chosen rows cols codes outlets place
-    chosen =
-        let i = in-list rows cols codes a _ outlets place passes in
-        record { some-cols = sizes .some-cols; in-list = i; solid = list .at-ground place i }
+  pub chosen : Chosen (land .rows) (land .cols) (land .codes) (c .outlets) place
+  chosen =
+      let i = in-list c (lengths c sub) place passes in
+      record { some-cols = sizes .some-cols; in-list = i; solid = list .at-ground place i }
 
-    pub few : place < 256
-    few = omega (arith, chosen .in-list, list .few-outlets)
+  pub few : place < 256
+  few = omega (arith, chosen .in-list, list .few-outlets)
 
-    within : outlet < rows * cols
-    within = ground-within land outlet (chosen .solid)
+  within : outlet < cellCount land
+  within = ground-within land outlet (chosen .solid)
 
-    module _ {grid : List ℕ} (filled : grid ≡ filledIf land outlets true sub) where
-      long : length grid ≡ length sub
-      long = ap (λ (l : List ℕ). length l) filled ∙ overlaid-length (subaccumulations land outlets) sub
+  module _ {grid : List ℕ} (filled : grid ≡ overlaid (subaccumulations land (c .outlets)) sub) where
+    long : length grid ≡ length sub
+    long = ap (λ (l : List ℕ). length l) filled ∙ overlaid-length (subaccumulations land (c .outlets)) sub
 
-      at-cell : (x : ℕ) → x < rows * cols → getD grid x 0 ≡ subaccumulation land outlets x
-      at-cell x h = ap (λ (l : List ℕ). getD l x 0) filled ∙ filled-at land outlets sub (sizes .has-third) x h
+    at-cell : (x : ℕ) → x < cellCount land → getD grid x 0 ≡ subaccumulation land (c .outlets) x
+    at-cell x h = ap (λ (l : List ℕ). getD l x 0) filled
+        ∙ filled-at land (c .outlets) sub (sizes .reach (length sub) (inr (inl refl))) x h
 
-      pub ready : Ready rows cols codes outlets grid
-      ready = record {
-        rows-small = sizes .rows-small;
-        cols-small = sizes .cols-small;
-        has-codes = sizes .has-codes;
-        has-subs = omega (arith, long, sizes .has-third);
-        lent = a;
-        agreed = list .agreement;
-        filled = at-cell;
-      }
+    pub ready : Ready (land .rows) (land .cols) (land .codes) (c .outlets) grid
+    ready = record {
+      grid = sizes .grid;
+      has-subs = omega (arith, long, sizes .reach (length sub) (inr (inl refl)));
+      lent = c .accumulation;
+      agreed = list .agreement;
+      filled = at-cell;
+    }
 
-      -- the outlet's own cells
-      pub in-grid : outlet < length grid
-      in-grid = omega (arith, within, long, sizes .has-third)
+    -- the outlet's own cells
+    pub in-grid : outlet < length grid
+    in-grid = omega (arith, within, ready .has-subs)
 
-      pub cells : getD grid outlet 0 ≡ subaccumulation land outlets outlet
-      cells = at-cell outlet within
+    pub cells : getD grid outlet 0 ≡ subaccumulation land (c .outlets) outlet
+    cells = at-cell outlet within
+
+-- the same, of what was prepared
+module _ {c : Catchment} {place : ℕ} {old : List ℕ} {p : Prepared} {new : List ℕ} (prep : Prepares c place old p new)
+    (z : p .number ≡ 0) where
+  passed : firstFailed (placeChecks c place (lengths c old)) ≡ 0
+  passed = sym (prep .is-number) ∙ z
+
+  pub prepared-ready : Ready (c .grid .rows) (c .grid .cols) (c .grid .codes) (c .outlets) new
+  prepared-ready = ready c place old passed (prep .filled z)
+
+  pub prepared-chosen : Chosen (c .grid .rows) (c .grid .cols) (c .grid .codes) (c .outlets) place
+  prepared-chosen = chosen c place old passed

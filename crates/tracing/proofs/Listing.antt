@@ -2,18 +2,18 @@
 -- Assumes nothing.
 use mathlib.Core.Path.{_≡_, refl, sym, ap, _∙_, subst}
 use mathlib.Core.Logic.{_⊎_, inl, inr}
-use mathlib.Core.List.{List, [], _∷_, _++_}
+use mathlib.Core.List.{List, [], _∷_}
 use Prim.Native.Nat.{ℕ, zero, suc, _+_, _-_, _≤_, _<_}
 use native.Mathlib.Omega.{arith}
 use native.Mathlib.Decide.{decLt}
-use lib.ListN.{length, getD, set, take, drop, length-set, List·getD-append}
+use lib.ListN.{length, getD, set, take, length-set, List·getD-append}
 use lib.Seq.{ext-getD, getD-at, getD-take, getD-set-same, getD-set-other, length-take-le}
 use Rattle.progress.specs.Starts.{kept}
 use Rattle.progress.proofs.Kept.{kept-length}
-use Rattle.answers.specs.Entries.{overlaid}
-use Rattle.answers.proofs.Accepted.{overlaid-length}
-use Rattle.filling.specs.Filling.{Kept}
-use Rattle.filling.proofs.Fronts.{front-is}
+use Rattle.lists.specs.Slices.{overlaid}
+use Rattle.lists.proofs.Overlaid.{overlaid-length}
+use Rattle.lists.specs.Slices.{Kept}
+use Rattle.lists.proofs.Overlaid.{front-is}
 
 -- a start before the end
 pub kept-at : (l : List ℕ) (end n x : ℕ) → x < n → getD (kept l end n) x 0 ≡ getD l (end - suc x) 0
@@ -62,7 +62,8 @@ module _ {found : List ℕ} {end : ℕ} {old new : List ℕ} where
   listing-all : (n : ℕ) → n ≤ length old → Listing found end n old new → new ≡ overlaid (kept found end n) old
   listing-all n r s = front-is (kept found end n) (omega (arith, kept-length found end n))
       (subst (λ (k : ℕ). Kept k old new) (sym (kept-length found end n)) (s .only))
-      (λ x h. let i : x < n = omega (arith, h, kept-length found end n) in s .starts x i ∙ sym (kept-at found end n x i))
+      (λ x h. let i : x < n = omega (arith, h, kept-length found end n) in s .starts x i
+      ∙ sym (kept-at found end n x i))
 
   -- or for the first
   listing-full : (n : ℕ) → length old ≤ n → Listing found end (length old) old new

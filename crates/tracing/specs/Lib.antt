@@ -1,3 +1,2 @@
-pub mod Telling
-pub mod Chosen
+pub mod Answering
 pub mod Preparing

@@ -1,28 +1,26 @@
 // Tracing all longest paths to an outlet of a list.
 use answers::Answer;
 use answers::Traced;
-use checks::chosen_number;
-use filling::clear;
+use checks::place_number;
 use filling::fill;
-use ground::index_of;
+use lists::clear;
+use lists::index_of;
+use lists::least;
 use progress::Progress;
+use stack::NUMBERS_EACH;
 ghost use mathlib.Core.Path.{_≡_};
-ghost use mathlib.Core.List.{[]};
-ghost use mathlib.Core.Logic.{_⊎_};
 ghost use Prim.Native.Nat.{_*_, _≤_};
-ghost use lib.ListN.{length, getD};
-ghost use Rattle.ground.specs.Grid.{gridOf};
-ghost use Rattle.ground.specs.Accumulation.{subaccumulation};
-ghost use Rattle.search.specs.Tracing.{tracing};
+ghost use lib.ListN.{length};
+ghost use Rattle.lists.specs.Slices.{overlaid};
+ghost use Rattle.search.specs.Tracing.{numbersEach};
 ghost use Rattle.progress.specs.Starts.{kept};
-ghost use Rattle.answers.specs.Entries.{overlaid, zeros};
-ghost use Rattle.answers.specs.declared.Answer.the-variants.{NoPlace};
-ghost use Rattle.answers.specs.Tracings.{answered, recursionNumber, recursionAnswer, traceLeavesSub, traceLeavesStarts};
-ghost use Rattle.answers.specs.Tracings.{stackNumber, stackAnswer, traceLeavesWork};
 ghost use Rattle.upstream.specs.Ready.{Ready};
-ghost use Rattle.tracing.specs.Chosen.{Chosen};
-ghost use Rattle.tracing.specs.Preparing.{Prepares};
-ghost use Rattle.tracing.specs.Telling.{refusedWith, tracingOf, toldWith};
+ghost use Rattle.answers.specs.declared.Answer.the-variants.{NoPlace};
+ghost use Rattle.answers.specs.Entries.{catchment};
+ghost use Rattle.answers.specs.Tracings.{answered, callOf, lent, TracesByRecursion, TracesByStack};
+ghost use Rattle.tracing.specs.Answering.{refusedWith, answerWith, cellsOf, tracingAt};
+ghost use Rattle.tracing.specs.Answering.{Lists, ListsAndClears};
+ghost use Rattle.tracing.specs.Preparing.{Chosen, Prepares};
 
 // Refused before the search.
 fn refused(number: u32) -> Traced
@@ -46,14 +44,14 @@ fn no_place(visited: u32, dropped: u32, paths: u32) -> Traced
     }
 }
 
-// What a search tells where the list has so many places.
-fn told(p: Progress, places: usize) -> Traced
-    ensures { λ r. ⌜ r ≡ toldWith (tracingOf p []) places ⌝ }
+// What a search answers where the list has room for so many starts.
+fn answer_for(p: Progress, room: usize) -> Traced
+    ensures { λ r. ⌜ r ≡ answerWith (p .greatest) (p .paths) (p .visited) (p .dropped) room ⌝ }
 {
     let paths = p.paths;
     let visited = p.visited;
     let dropped = p.dropped;
-    if places < index_of(paths) {
+    if room < index_of(paths) {
         return no_place(visited, dropped, paths);
     }
     Traced {
@@ -65,16 +63,6 @@ fn told(p: Progress, places: usize) -> Traced
             paths,
         },
     }
-}
-
-// The lesser of two numbers.
-fn least(a: usize, b: usize) -> usize
-    ensures { λ r. ⌜ (r ≤ a) × (r ≤ b) × ((r ≡ a) ⊎ (r ≡ b)) ⌝ }
-{
-    if b < a {
-        return b;
-    }
-    a
 }
 
 // Writes the starts that stand before an end to the list, the first first, as many as it has places for.
@@ -90,27 +78,23 @@ fn list_starts(found: &[u32], end: usize, paths: u32, starts: &mut [u32])
     }
 }
 
-// Traces an outlet by recursion, in a grid that holds the subaccumulation. The starts wait in an array, since those of a
-// length that is exceeded later must not be seen in the list.
+// Traces an outlet by recursion, in a grid that holds the subaccumulation. The starts wait in an array, since those
+// of a length that is exceeded later must not be seen in the list.
 fn by_recursion(
     rows: usize,
     cols: usize,
     codes: &[u8],
     outlets: &[u32],
-    subs: &[u32],
+    subaccumulation: &[u32],
     dropping: bool,
     place: usize,
     starts: &mut [u32],
 ) -> Traced
-    requires { ⌜ Ready rows cols (now codes) (now outlets) (now subs) ⌝ }
+    requires { ⌜ Ready rows cols (now codes) (now outlets) (now subaccumulation) ⌝ }
     requires { ⌜ Chosen rows cols (now codes) (now outlets) place ⌝ }
-    requires { ⌜ subaccumulation (gridOf rows cols (now codes)) (now outlets) (getD (now outlets) place 0) ≤ 4096 ⌝ }
-    ensures tells { λ r. ⌜ r
-        ≡ toldWith (tracing dropping (gridOf rows cols (now (codes .entry))) (now (outlets .entry))
-        (getD (now (outlets .entry)) place 0)) (length (now (starts .entry))) ⌝ }
-    ensures lists { λ _. ⌜ now (starts .exit)
-        ≡ overlaid (tracing dropping (gridOf rows cols (now (codes .entry))) (now (outlets .entry))
-        (getD (now (outlets .entry)) place 0) .starts) (now (starts .entry)) ⌝ }
+    requires { ⌜ cellsOf rows cols (now codes) (now outlets) place ≤ 4096 ⌝ }
+    ensures { λ r. ⌜ Lists (tracingAt rows cols (now (codes .entry)) (now (outlets .entry)) place dropping)
+        (now (starts .entry)) r (now (starts .exit)) ⌝ }
 {
     let outlet = index_of(outlets[place]);
     let mut found = [0u32; 4096];
@@ -119,51 +103,44 @@ fn by_recursion(
         cols,
         codes,
         outlets,
-        subs,
+        subaccumulation,
         dropping,
         outlet / cols,
         outlet % cols,
         &mut found,
     );
     list_starts(&found, 4096, p.paths, starts);
-    told(p, starts.len())
+    answer_for(p, starts.len())
 }
 
-// Traces an outlet from pending cells, in a grid that holds the subaccumulation. The starts wait at the end of the working
-// numbers, which are then cleared.
+// Traces an outlet from pending cells, in a grid that holds the subaccumulation. The starts wait at the end of the
+// working numbers, which are then cleared.
 fn by_stack(
     rows: usize,
     cols: usize,
     codes: &[u8],
     outlets: &[u32],
-    subs: &[u32],
+    subaccumulation: &[u32],
     dropping: bool,
     place: usize,
     starts: &mut [u32],
     work: &mut [u32],
 ) -> Traced
-    requires { ⌜ Ready rows cols (now codes) (now outlets) (now subs) ⌝ }
+    requires { ⌜ Ready rows cols (now codes) (now outlets) (now subaccumulation) ⌝ }
     requires { ⌜ Chosen rows cols (now codes) (now outlets) place ⌝ }
-    requires { ⌜ 3 * subaccumulation (gridOf rows cols (now codes)) (now outlets) (getD (now outlets) place 0)
-        ≤ length (now work) ⌝ }
-    ensures tells { λ r. ⌜ r
-        ≡ toldWith (tracing dropping (gridOf rows cols (now (codes .entry))) (now (outlets .entry))
-        (getD (now (outlets .entry)) place 0)) (length (now (starts .entry))) ⌝ }
-    ensures lists { λ _. ⌜ now (starts .exit)
-        ≡ overlaid (tracing dropping (gridOf rows cols (now (codes .entry))) (now (outlets .entry))
-        (getD (now (outlets .entry)) place 0) .starts) (now (starts .entry)) ⌝ }
-    ensures clears { λ _. ⌜ now (work .exit)
-        ≡ overlaid (zeros (3 * subaccumulation (gridOf rows cols (now (codes .entry))) (now (outlets .entry))
-        (getD (now (outlets .entry)) place 0))) (now (work .entry)) ⌝ }
+    requires { ⌜ numbersEach * cellsOf rows cols (now codes) (now outlets) place ≤ length (now work) ⌝ }
+    ensures { λ r. ⌜ ListsAndClears (tracingAt rows cols (now (codes .entry)) (now (outlets .entry)) place dropping)
+        (now (starts .entry)) (cellsOf rows cols (now (codes .entry)) (now (outlets .entry)) place)
+        (now (work .entry)) r (now (starts .exit)) (now (work .exit)) ⌝ }
 {
     let own = index_of(outlets[place]);
-    let end = 3 * index_of(subs[own]);
+    let end = NUMBERS_EACH * index_of(subaccumulation[own]);
     let p = stack::trace(
         rows,
         cols,
         codes,
         outlets,
-        subs,
+        subaccumulation,
         dropping,
         own / cols,
         own % cols,
@@ -171,7 +148,7 @@ fn by_stack(
     );
     list_starts(work, end, p.paths, starts);
     clear(end, work);
-    told(p, starts.len())
+    answer_for(p, starts.len())
 }
 
 // The first of 10 to 18 that fails, and else, once the grid is filled, the cells of the chosen subwatershed.
@@ -190,18 +167,12 @@ fn prepare(
     place: usize,
     subaccumulation: &mut [u32],
 ) -> Prepared
-    ensures { λ r. ⌜ Prepares rows cols (now (codes .entry)) (now (accumulation .entry)) (now (outlets .entry)) place
+    ensures { λ r. ⌜ Prepares
+        (catchment rows cols (now (codes .entry)) (now (accumulation .entry)) (now (outlets .entry))) place
         (now (subaccumulation .entry)) r (now (subaccumulation .exit)) ⌝ }
 {
-    let first = chosen_number(
-        rows,
-        cols,
-        codes,
-        accumulation,
-        outlets,
-        place,
-        subaccumulation.len(),
-    );
+    let lengths = [accumulation.len(), subaccumulation.len()];
+    let first = place_number(rows, cols, codes, accumulation, outlets, place, &lengths);
     if first != 0 {
         return Prepared {
             number: first,
@@ -216,8 +187,8 @@ fn prepare(
     }
 }
 
-// Traces all longest paths to an outlet of the list, with or without dropping, by recursion: 10, 11, 12, 14 to 19, 21. The
-// grid is filled once 18 is past.
+// Traces all longest paths to an outlet of the list, with or without dropping, by recursion: 10, 11, 12, 14 to 19,
+// 21. The grid is filled once 18 is past.
 pub fn trace_by_recursion(
     rows: usize,
     cols: usize,
@@ -229,19 +200,10 @@ pub fn trace_by_recursion(
     subaccumulation: &mut [u32],
     starts: &mut [u32],
 ) -> Traced
-    ensures answers { λ r. ⌜ r
-        ≡ recursionAnswer dropping rows cols (now (codes .entry)) (now (accumulation .entry)) (now (outlets .entry)) place
-        (now (subaccumulation .entry)) (now (starts .entry)) ⌝ }
-    ensures fills { λ _. ⌜ now (subaccumulation .exit)
-        ≡ traceLeavesSub dropping rows cols (now (codes .entry)) (now (accumulation .entry)) (now (outlets .entry)) place
-        (now (subaccumulation .entry)) (now (starts .entry))
-        (recursionNumber dropping rows cols (now (codes .entry)) (now (accumulation .entry)) (now (outlets .entry)) place
-        (now (subaccumulation .entry)) (now (starts .entry))) ⌝ }
-    ensures lists { λ _. ⌜ now (starts .exit)
-        ≡ traceLeavesStarts dropping rows cols (now (codes .entry)) (now (accumulation .entry)) (now (outlets .entry)) place
-        (now (subaccumulation .entry)) (now (starts .entry))
-        (recursionNumber dropping rows cols (now (codes .entry)) (now (accumulation .entry)) (now (outlets .entry)) place
-        (now (subaccumulation .entry)) (now (starts .entry))) ⌝ }
+    ensures { λ r. ⌜ TracesByRecursion
+        (callOf rows cols (now (codes .entry)) (now (accumulation .entry)) (now (outlets .entry)) place dropping)
+        (lent (now (subaccumulation .entry)) (now (starts .entry)))
+        r (lent (now (subaccumulation .exit)) (now (starts .exit))) ⌝ }
 {
     let ready = prepare(
         rows,
@@ -284,25 +246,10 @@ pub fn trace_by_stack(
     starts: &mut [u32],
     work: &mut [u32],
 ) -> Traced
-    ensures answers { λ r. ⌜ r
-        ≡ stackAnswer dropping rows cols (now (codes .entry)) (now (accumulation .entry)) (now (outlets .entry)) place
-        (now (subaccumulation .entry)) (now (starts .entry)) (now (work .entry)) ⌝ }
-    ensures fills { λ _. ⌜ now (subaccumulation .exit)
-        ≡ traceLeavesSub dropping rows cols (now (codes .entry)) (now (accumulation .entry)) (now (outlets .entry)) place
-        (now (subaccumulation .entry)) (now (starts .entry))
-        (stackNumber dropping rows cols (now (codes .entry)) (now (accumulation .entry)) (now (outlets .entry)) place
-        (now (subaccumulation .entry)) (now (starts .entry)) (now (work .entry))) ⌝ }
-    ensures lists { λ _. ⌜ now (starts .exit)
-        ≡ traceLeavesStarts dropping rows cols (now (codes .entry)) (now (accumulation .entry)) (now (outlets .entry)) place
-        (now (subaccumulation .entry)) (now (starts .entry))
-        (stackNumber dropping rows cols (now (codes .entry)) (now (accumulation .entry)) (now (outlets .entry)) place
-        (now (subaccumulation .entry)) (now (starts .entry)) (now (work .entry))) ⌝ }
-    ensures clears { λ _. ⌜ now (work .exit)
-        ≡ traceLeavesWork dropping rows cols (now (codes .entry)) (now (accumulation .entry)) (now (outlets .entry)) place
-        (now (subaccumulation .entry)) (now (starts .entry))
-        (stackNumber dropping rows cols (now (codes .entry)) (now (accumulation .entry)) (now (outlets .entry)) place
-        (now (subaccumulation .entry)) (now (starts .entry)) (now (work .entry)))
-        (now (work .entry)) ⌝ }
+    ensures { λ r. ⌜ TracesByStack
+        (callOf rows cols (now (codes .entry)) (now (accumulation .entry)) (now (outlets .entry)) place dropping)
+        (lent (now (subaccumulation .entry)) (now (starts .entry))) (now (work .entry))
+        r (lent (now (subaccumulation .exit)) (now (starts .exit))) (now (work .exit)) ⌝ }
 {
     let ready = prepare(
         rows,
@@ -318,7 +265,7 @@ pub fn trace_by_stack(
         return refused(number);
     }
     let cells = ready.cells;
-    if work.len() < 3 * index_of(cells) {
+    if work.len() < NUMBERS_EACH * index_of(cells) {
         return refused(20);
     }
     by_stack(

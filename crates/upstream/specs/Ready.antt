@@ -5,22 +5,32 @@ use mathlib.Core.Bool.{Bool, true}
 use mathlib.Core.List.{List}
 use Prim.Native.Nat.{ℕ, _+_, _*_, _≤_, _<_}
 use lib.ListN.{length, getD}
+use Rattle.lengths.specs.declared.Length.{Length}
+use Rattle.lengths.specs.Rule.{plusStep}
 use Rattle.ground.specs.Compass.{squares}
-use Rattle.ground.specs.Grid.{Grid, gridOf, ground}
+use Rattle.ground.specs.Grid.{Grid, gridOf, codeAt, ground}
 use Rattle.ground.specs.Accumulation.{agrees, subaccumulation}
 use Rattle.ground.specs.Forest.{forest}
+use Rattle.moves.specs.Lent.{LentGrid}
+use Rattle.moves.specs.Moves.{leadOf, stepBy}
 use Rattle.search.specs.Search.{State, firstRule, searchFrom}
 use Rattle.progress.specs.declared.Progress.{Progress}
 use Rattle.progress.specs.Starts.{stateOf}
 
 pub record Ready (rows cols : ℕ) (codes outlets subs : List ℕ) : Type 0 where
-  pub rows-small : rows ≤ 4096
-  pub cols-small : cols ≤ 4096
-  pub has-codes : rows * cols ≤ length codes
+  pub grid : LentGrid rows cols codes
   pub has-subs : rows * cols ≤ length subs
   pub lent : List ℕ
   pub agreed : agrees (gridOf rows cols codes) lent ≡ true
   pub filled : (x : ℕ) → x < rows * cols → getD subs x 0 ≡ subaccumulation (gridOf rows cols codes) outlets x
+
+-- the cells of the subwatershed that drain through a cell
+abbrev pub cellsAt : ℕ → ℕ → List ℕ → List ℕ → ℕ → ℕ → ℕ
+cellsAt rows cols codes outlets row col = subaccumulation (gridOf rows cols codes) outlets (row * cols + col)
+
+-- the length of a cell above one at this length, by its own code
+abbrev pub ownLength : Grid → ℕ → Length → Length
+ownLength g y below = plusStep below (stepBy (leadOf (codeAt g y)))
 
 -- a cell of ground, by its row and column
 pub record OnGround (rows cols : ℕ) (codes : List ℕ) (row col : ℕ) : Type 0 where
@@ -29,7 +39,8 @@ pub record OnGround (rows cols : ℕ) (codes : List ℕ) (row col : ℕ) : Type 
   pub solid : ground (gridOf rows cols codes) (row * cols + col) ≡ true
 
 -- the search's own state, its starts before an end, and its counts
-pub record Searched (g : Grid) (outlets : List ℕ) (dropping : Bool) (o end : ℕ) (r : Progress) (new : List ℕ) : Type 0 where
+pub record Searched (g : Grid) (outlets : List ℕ) (dropping : Bool) (o end : ℕ) (r : Progress)
+    (new : List ℕ) : Type 0 where
   pub state : _≡_ {A = State squares} (stateOf r new end)
       (searchFrom squares (firstRule squares dropping) o (forest g outlets o))
   pub all-cells : r .visited + r .dropped ≡ subaccumulation g outlets o

@@ -4,21 +4,13 @@ use mathlib.Core.Path.{_≡_}
 use mathlib.Core.List.{List}
 use Prim.Native.Nat.{ℕ, _+_, _*_, _≤_, _<_}
 use lib.ListN.{length}
-use Rattle.ground.specs.declared.Spot.{Spot}
-use Rattle.ground.specs.declared.Spot.the-variants.{Off, On}
+use Rattle.moves.specs.declared.Spot.{Spot}
+use Rattle.moves.specs.declared.Spot.the-variants.{On}
 use Rattle.ground.specs.Grid.{gridOf}
-use Rattle.ground.specs.Moves.{spotCell, dirAt}
+use Rattle.moves.specs.Moves.{spotCell, dirAt}
 use Rattle.search.specs.Neighbours.{inflowIn}
 
--- a cell of a grid whose codes are lent
-pub record OnCell (rows cols : ℕ) (codes : List ℕ) (row col : ℕ) : Type 0 where
-  pub rows-small : rows ≤ 4096
-  pub cols-small : cols ≤ 4096
-  pub has-codes : rows * cols ≤ length codes
-  pub row-in : row < rows
-  pub col-in : col < cols
-
--- the place found is that of what the search turns to in direction k, and on the grid
+-- what is found is what the search turns to in direction k, and on the grid
 pub record TurnsTo (rows cols : ℕ) (codes outlets : List ℕ) (row col k : ℕ) (r : Spot) : Type 0 where
   pub is-cell : spotCell cols r ≡ inflowIn (gridOf rows cols codes) outlets (row * cols + col) (dirAt k)
   pub row-in : (x y : ℕ) → r ≡ On x y → x < rows

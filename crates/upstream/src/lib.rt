@@ -1,28 +1,12 @@
 // What the search turns to from a cell: the neighbours that flow in and are no outlets.
-use ground::Spot;
-use ground::index_of;
-use ground::neighbour_at;
-use ground::spot_at;
-ghost use mathlib.Core.Path.{_≡_};
-ghost use Rattle.ground.specs.Lists.{member};
-ghost use Rattle.upstream.specs.Turns.{OnCell, TurnsTo};
+use lists::is_among;
+use moves::Spot;
+use moves::inflow_from;
+ghost use Rattle.moves.specs.Lent.{OnCell};
+ghost use Rattle.upstream.specs.Turns.{TurnsTo};
 
-// Is a cell among the outlets?
-pub fn is_outlet(outlets: &[u32], cell: usize) -> bool
-    ensures { λ r. ⌜ r ≡ member cell (now (outlets .entry)) ⌝ }
-{
-    let mut i: usize = 0;
-    while i < outlets.len() {
-        if index_of(outlets[i]) == cell {
-            return true;
-        }
-        i += 1;
-    }
-    false
-}
-
-// The place of neighbour k, if it flows in and is no outlet.
-pub fn inflow_from(
+// Neighbour k of a cell, if it flows in and is no outlet.
+pub fn tributary_from(
     rows: usize,
     cols: usize,
     codes: &[u8],
@@ -34,16 +18,11 @@ pub fn inflow_from(
     requires { ⌜ OnCell rows cols (now codes) row col ⌝ }
     ensures { λ r. ⌜ TurnsTo rows cols (now (codes .entry)) (now (outlets .entry)) row col k r ⌝ }
 {
-    let n = neighbour_at(k);
-    match spot_at(rows, cols, row, col, n.row, n.col) {
+    match inflow_from(rows, cols, codes, row, col, k) {
         Spot::Off => Spot::Off,
         Spot::On { row: r, col: c } => {
             let at = r * cols + c;
-            let back = n.back;
-            if codes[at] != back {
-                return Spot::Off;
-            }
-            if is_outlet(outlets, at) {
+            if is_among(outlets, 0, at) {
                 return Spot::Off;
             }
             Spot::On { row: r, col: c }

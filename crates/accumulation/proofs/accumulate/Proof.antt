@@ -1,8 +1,6 @@
 -- `accumulation::accumulate` meets its contract.
 -- Assumes nothing.
-use mathlib.Core.Path.{_≡_, sym, _∙_, subst}
-use mathlib.Core.Bool.{Bool, true, false, cond}
-use mathlib.Core.List.{List}
+use mathlib.Core.Path.{_≡_, sym, _∙_}
 use borrow.Author.Needs.{needs}
 use borrow.Author.Tests.{not-true, not-false}
 use Rattle.answers.specs.Checks.{firstFailed}
@@ -10,16 +8,19 @@ use Rattle.accumulation.proofs.Accumulated.{before, refused, fillable, 
 use Rattle.accumulation.proofs.accumulate.Statement.{statement}
 use Rattle.accumulation.proofs.accumulate.Tie as tie
 
-passes : (c : tie.Else1) → let a = c .before .before .before .before .args in
+passes : (c : tie.Else1) → let a = c .before .before .before .before .before .args in
     firstFailed (before (a .rows) (a .cols) (a .codes .now) (a .accumulation .now)) ≡ 0
 passes c = sym (c .before .grid-number .ensures) ∙ c .if1 .left
+
+slice-aggregate-grid-number : tie.Need-slice-aggregate-grid-number
+slice-aggregate-grid-number c = search needs
 
 grid-number-requires : tie.Need-grid-number-requires
 grid-number-requires c κs = search needs
 
 returns : tie.Need-returns
 returns c =
-    let a = c .before .before .before .before .args in
+    let a = c .before .before .before .before .before .args in
     refused (a .rows) (a .cols) (a .codes .now) (a .accumulation .now) (c .before .grid-number .ensures) (c .if1 .taken)
 
 array-share-prefix-none : tie.Need-array-share-prefix-none
@@ -30,7 +31,7 @@ slice-aggregate-fill c = search needs
 
 fill-requires : tie.Need-fill-requires
 fill-requires c κs =
-    let a = c .before .before .before .before .before .before .args in
+    let a = c .before .before .before .before .before .before .before .args in
     fillable (a .rows) (a .cols) (a .codes .now) (a .accumulation .now) (passes (c .before .before))
 
 same-length : tie.Need-same-length
@@ -38,27 +39,28 @@ same-length c = search needs
 
 returns-2 : tie.Need-returns-2
 returns-2 c =
-    let a = c .before .before .before .before .before .before .before .before .before .before .args in
+    let a = c .before .before .before .before .before .before .before .before .before .before .before .args in
     let f = c .before .before .before .fill in
     rw (not-true (f .result) (c .if2 .taken)) at
-    (filled (a .rows) (a .cols) (a .codes .now) (a .accumulation .now) (passes (c .before .before .before .before .before .before))
-    (f .result) (f .ensures .0) (f .ensures .1))
+    (filled (a .rows) (a .cols) (a .codes .now) (a .accumulation .now)
+    (passes (c .before .before .before .before .before .before)) (f .result) (f .ensures))
 
 same-length-2 : tie.Need-same-length-2
 same-length-2 c = search needs
 
 returns-3 : tie.Need-returns-3
 returns-3 c =
-    let a = c .before .before .before .before .before .before .before .before .before .before .args in
+    let a = c .before .before .before .before .before .before .before .before .before .before .before .args in
     let f = c .before .before .before .fill in
     rw (not-false (f .result) (c .if2 .left)) at
-    (filled (a .rows) (a .cols) (a .codes .now) (a .accumulation .now) (passes (c .before .before .before .before .before .before))
-    (f .result) (f .ensures .0) (f .ensures .1))
+    (filled (a .rows) (a .cols) (a .codes .now) (a .accumulation .now)
+    (passes (c .before .before .before .before .before .before)) (f .result) (f .ensures))
 
 pub accumulate-spec : {M : Type 1} → statement M
 accumulate-spec =
     tie.close
     (tie.spec
+    slice-aggregate-grid-number
     grid-number-requires
     returns
     array-share-prefix-none

@@ -12,12 +12,12 @@ use Rattle.checks.proofs.agrees_all.Statement.{statement}
 use Rattle.checks.proofs.agrees_all.Tie as tie
 
 abbrev Inv-loop : tie.InvT-loop
-Inv-loop rows cols codes accumulation place₀ place =
-    (place .col < cols) × (place .row * cols + place .col ≤ rows * cols)
-    × AgreesBefore (gridOf rows cols codes) accumulation (place .row * cols + place .col)
+Inv-loop rows cols codes accumulation here₀ here =
+    (here .col < cols) × (here .row * cols + here .col ≤ rows * cols)
+    × AgreesBefore (gridOf rows cols codes) accumulation (here .row * cols + here .col)
 
 abbrev μ-loop : tie.MeasureT-loop
-μ-loop rows cols codes accumulation place₀ place = rows * cols - (place .row * cols + place .col)
+μ-loop rows cols codes accumulation here₀ here = rows * cols - (here .row * cols + here .col)
 
 loop-holds : tie.Need-loop-holds Inv-loop μ-loop
 loop-holds c = (c .before .before .pre .some-cols, omega arith, agrees-none _ _ _ (omega arith))
@@ -26,12 +26,8 @@ agrees-at-requires : tie.Need-agrees-at-requires Inv-loop μ-loop
 agrees-at-requires c κs =
     let s = c .before .before .before .before .before in
     record {
-      rows-small = s .pre .rows-small;
-      cols-small = s .pre .cols-small;
-      has-codes = s .pre .has-codes;
+      on = record { grid = s .pre .grid; row-in = c .if1 .taken; col-in = c .before .before .loop .inv .0 };
       has-accumulation = s .pre .has-accumulation;
-      row-in = c .if1 .taken;
-      col-in = c .before .before .loop .inv .0;
     }
 
 returns : tie.Need-returns Inv-loop μ-loop
@@ -43,7 +39,7 @@ next-requires : tie.Need-next-requires Inv-loop μ-loop
 next-requires c κs = (
   omega arith,
   c .before .before .before .before .loop .inv .0,
-  c .before .before .before .before .before .before .before .pre .cols-small,
+  c .before .before .before .before .before .before .before .pre .grid .sides .cols-small,
 )
 
 loop-less : tie.Need-loop-less Inv-loop μ-loop

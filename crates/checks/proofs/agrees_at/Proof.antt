@@ -1,13 +1,11 @@
 -- `checks::agrees_at` meets its contract: a null cell has 0, any other 1 more than the sum of its inflow record.
 -- Assumes nothing.
-use mathlib.Core.Path.{ap, _∙_}
-use Prim.Native.Nat.{ℕ, _+_, _*_}
+use mathlib.Core.Path.{_≡_, _∙_}
+use Prim.Native.Nat.{_+_, _*_}
 use native.Mathlib.Omega.{arith}
 use borrow.Author.Needs.{needs}
-use lib.ListN.{getD}
-use lib.Dec.{eqb}
-use Rattle.ground.specs.Lists.{sumOf}
-use Rattle.ground.specs.Grid.{gridOf}
+use Rattle.lists.specs.Lists.{sumOf}
+use Rattle.ground.specs.Grid.{gridOf, inflowRecord}
 use Rattle.checks.proofs.Cells.{null-agrees, ground-agrees, record-small, inside}
 use Rattle.checks.proofs.agrees_at.Statement.{statement}
 use Rattle.checks.proofs.agrees_at.Tie as tie
@@ -33,9 +31,8 @@ shared-slice-read-if1 c = omega (arith, inside (c .before .before .before .befor
 returns : tie.Need-returns
 returns c =
     let s = c .before .before .before .before .before .before in
-    ap (λ (v : ℕ). eqb v 0) (c .before .before .wide .ensures .0)
-    ∙ null-agrees (gridOf (s .args .rows) (s .args .cols) (s .args .codes .now)) _ (inside (s .pre) .0)
-    (s .args .accumulation .now) (c .if1 .taken)
+    null-agrees _ _ (inside (s .pre) .0) (s .args .accumulation .now) (c .before .before .wide .ensures .0)
+    (c .if1 .taken)
 
 inflows-of-requires : tie.Need-inflows-of-requires
 inflows-of-requires c κs = search needs
@@ -43,12 +40,19 @@ inflows-of-requires c κs = search needs
 sum-requires : tie.Need-sum-requires
 sum-requires c κs = search needs
 
+-- what was added up is the record's sum
+sum-is : (c : tie.After-sum) → let a = c .before .before .before .before .before .before .before .before .args in
+    c .sum .result
+    ≡ sumOf (inflowRecord (gridOf (a .rows) (a .cols) (a .codes .now)) (a .accumulation .now)
+    (a .row * a .cols + a .col))
+sum-is c = c .sum .ensures ∙ rw (c .before .inflows-of .ensures)
+
 add-result : tie.Need-add-result
 add-result c =
     let s = c .before .before .before .before .before .before .before .before in
     omega (
       arith,
-      c .sum .ensures ∙ ap sumOf (c .before .inflows-of .ensures),
+      sum-is c,
       record-small (gridOf (s .args .rows) (s .args .cols) (s .args .codes .now)) (s .args .accumulation .now)
           (λ y. omega (arith, c .before .before .before .before .before .before .shared-slice-known2 .given y))
           (s .args .row * s .args .cols + s .args .col),
@@ -57,11 +61,9 @@ add-result c =
 returns-2 : tie.Need-returns-2
 returns-2 c =
     let s = c .before .before .before .before .before .before .before .before in
-    ap (λ (v : ℕ). eqb v (c .sum .result + 1)) (c .before .before .before .before .wide .ensures .0)
-    ∙ ap (λ (n : ℕ). eqb (getD (s .args .accumulation .now) (s .args .row * s .args .cols + s .args .col) 0) (n + 1))
-    (c .sum .ensures ∙ ap sumOf (c .before .inflows-of .ensures))
-    ∙ ground-agrees (gridOf (s .args .rows) (s .args .cols) (s .args .codes .now)) _ (inside (s .pre) .0)
-    (s .args .accumulation .now) (c .before .before .if1 .left)
+    ground-agrees _ _ (inside (s .pre) .0) (s .args .accumulation .now)
+    (c .before .before .before .before .wide .ensures .0)
+    (sum-is c) (c .before .before .if1 .left)
 
 pub agrees-at-spec : {M : Type 1} → statement M
 agrees-at-spec =

@@ -7,9 +7,9 @@ use native.Mathlib.Omega.{arith}
 use borrow.Author.Needs.{needs}
 use borrow.Author.Tests.{not-true, not-false}
 use lib.ListN.{getD}
-use Rattle.ground.specs.Lists.{allBelow}
+use Rattle.lists.specs.Lists.{allBelow}
 use Rattle.answers.specs.Checks.{isCode}
-use Rattle.checks.proofs.Lists.{all-fails, all-more}
+use Rattle.lists.proofs.Lists.{all-fails, all-more}
 use Rattle.checks.proofs.all_codes.Statement.{statement}
 use Rattle.checks.proofs.all_codes.Tie as tie
 

@@ -1,24 +1,24 @@
--- `drawing::least_above` meets its contract. The invariant: the outlets looked at are not between the value and the least.
+-- `drawing::least_above` meets its contract. The invariant: no outlet looked at lies between the value and the least.
 -- Assumes nothing.
 use mathlib.Core.Path.{_≡_, subst}
 use Prim.Native.Nat.{ℕ, _+_, _-_, _≤_, _<_}
 use native.Mathlib.Omega.{arith}
 use lib.ListN.{length, getD}
 use borrow.Author.Needs.{needs}
-use Rattle.drawing.specs.Measuring.{Quiet}
-use Rattle.drawing.proofs.Marks.{quiet-none, quiet-more}
+use Rattle.drawing.specs.Measuring.{NoneBetween}
+use Rattle.drawing.proofs.Marks.{none-first, none-more}
 use Rattle.drawing.proofs.least_above.Statement.{statement}
 use Rattle.drawing.proofs.least_above.Tie as tie
 
 abbrev Inv-loop : tie.InvT-loop
 Inv-loop accumulation outlets value least₀ j₀ least j =
-    (j ≤ length outlets) × Quiet j accumulation outlets (value + 1) least
+    (j ≤ length outlets) × NoneBetween j accumulation outlets (value + 1) least
 
 abbrev μ-loop : tie.MeasureT-loop
 μ-loop accumulation outlets value least₀ j₀ least j = length outlets - j
 
 loop-holds : tie.Need-loop-holds Inv-loop μ-loop
-loop-holds c = (search needs, quiet-none)
+loop-holds c = (search needs, none-first)
 
 mul-index-of : tie.Need-mul-index-of Inv-loop μ-loop
 mul-index-of c = search needs
@@ -53,7 +53,7 @@ loop-again c =
     let s = l .before .before .before in
     let e = c .before .before .index-of .ensures .0 in (
       search needs,
-      quiet-more (l .loop .inv .1) (c .lower-above .ensures .0)
+      none-more (l .loop .inv .1) (c .lower-above .ensures .0)
           (subst (λ (x : ℕ). getD (s .args .accumulation .now) x 0 < c .lower-above .result
           → getD (s .args .accumulation .now) x 0 ≤ s .args .value) e (c .lower-above .ensures .1)),
     )
@@ -63,8 +63,8 @@ returns c =
     let l = c .before in
     let s = l .before .before .before in
     let e : l .loop .j ≡ length (s .args .outlets .now) = search needs in
-    subst (λ (n : ℕ). Quiet n (s .args .accumulation .now) (s .args .outlets .now) (s .args .value + 1) (l .loop .least)) e
-    (l .loop .inv .1)
+    subst (λ (n : ℕ). NoneBetween n (s .args .accumulation .now) (s .args .outlets .now) (s .args .value + 1)
+    (l .loop .least)) e (l .loop .inv .1)
 
 pub least-above-spec : {M : Type 1} → statement M
 least-above-spec =

@@ -2,7 +2,7 @@
 -- Assumes nothing.
 use native.Mathlib.Omega.{arith}
 use borrow.Author.Needs.{needs}
-use Rattle.drawing.proofs.Marks.{quiet-higher}
+use Rattle.drawing.proofs.Marks.{none-higher}
 use Rattle.drawing.proofs.mark_after.Statement.{statement}
 use Rattle.drawing.proofs.mark_after.Tie as tie
 
@@ -13,7 +13,7 @@ shared-slice-read-value : tie.Need-shared-slice-read-value
 shared-slice-read-value c = search needs
 
 returns : tie.Need-returns
-returns c = quiet-higher _ (omega arith) (c .before .before .before .before .pre .1 .1)
+returns c = none-higher _ (omega arith) (c .before .before .before .before .pre .1 .none-between)
 
 least-above-requires : tie.Need-least-above-requires
 least-above-requires c κs = search needs

@@ -15,14 +15,14 @@ shared-slice-read-if1 c = search needs
 returns : tie.Need-returns
 returns c =
     let s = c .before .before .before .before in
-    sym (no-outlet-below (s .args .cell) (s .pre .1) (c .if1 .taken))
+    sym (no-outlet-below (s .args .cell) (s .pre .none-between) (c .if1 .taken))
 
-is-outlet-requires : tie.Need-is-outlet-requires
-is-outlet-requires c κs = search needs
+is-among-requires : tie.Need-is-among-requires
+is-among-requires c κs = search needs
 
 returns-2 : tie.Need-returns-2
 returns-2 c = search needs
 
 pub meets-outlet-spec : {M : Type 1} → statement M
 meets-outlet-spec =
-    tie.close (tie.spec mul-if1 shared-slice-read-if1 returns is-outlet-requires returns-2)
+    tie.close (tie.spec mul-if1 shared-slice-read-if1 returns is-among-requires returns-2)

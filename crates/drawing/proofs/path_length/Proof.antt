@@ -1,10 +1,9 @@
 -- `drawing::path_length` meets its contract: beyond the grid and at a null cell there is nothing to draw.
 -- Assumes nothing.
-use mathlib.Core.Path.{sym, ap, ap₂, _∙_}
+use mathlib.Core.Path.{sym, ap, _∙_}
 use borrow.Author.Needs.{needs}
 use Rattle.ground.specs.Grid.{gridOf, ground}
-use Rattle.drawing.specs.Measuring.{pathLength}
-use Rattle.drawing.proofs.Following.{placed-solid, not-placed}
+use Rattle.drawing.proofs.Following.{placed-solid, not-placed, measured}
 use Rattle.drawing.proofs.path_length.Statement.{statement}
 use Rattle.drawing.proofs.path_length.Tie as tie
 
@@ -22,16 +21,15 @@ follow-requires c κs =
     let t = c .before .before in
     let s = t .before .before .before .before .before in
     let land = gridOf (s .args .rows) (s .args .cols) (s .args .codes .now) in
-    let solid = placed-solid (s .pre) (s .args .start) (sym (t .before .is-placed .ensures) ∙ t .if1 .taken) in
+    let solid = placed-solid land (s .args .start) (sym (t .before .is-placed .ensures) ∙ t .if1 .taken) in
     (s .pre, ap (ground land) (c .before .index-of .ensures .0) ∙ solid)
 
 returns : tie.Need-returns
 returns c =
     let i = c .before in
     let a = i .before .before .before .before .before .before .before .args in
-    c .follow .ensures
-    ∙ ap₂ (pathLength (gridOf (a .rows) (a .cols) (a .codes .now)) (a .outlets .now)) (i .index-of2 .ensures .0)
-    (i .before .index-of .ensures .0)
+    measured (gridOf (a .rows) (a .cols) (a .codes .now)) (a .outlets .now) (c .follow .ensures)
+    (i .index-of2 .ensures .0) (i .before .index-of .ensures .0)
 
 returns-2 : tie.Need-returns-2
 returns-2 c =

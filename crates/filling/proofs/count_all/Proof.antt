@@ -1,10 +1,10 @@
 -- `filling::count_all` meets its contract. The invariant: the cells before `at` are counted.
 -- Assumes nothing.
 use Prim.Native.Nat.{_-_, _*_}
-use native.Mathlib.Nat.{mul-le-mul}
 use native.Mathlib.Omega.{arith}
 use borrow.Author.Needs.{needs}
 use Rattle.ground.specs.Grid.{gridOf}
+use Rattle.moves.proofs.Spots.{size}
 use Rattle.filling.specs.Filling.{Counted}
 use Rattle.filling.proofs.Kept.{fillable-kept}
 use Rattle.filling.proofs.Scans.{Scan, scan-begin, scan-row, scan-here, scan-on, scan-end}
@@ -12,14 +12,14 @@ use Rattle.filling.proofs.count_all.Statement.{statement}
 use Rattle.filling.proofs.count_all.Tie as tie
 
 abbrev Inv-loop : tie.InvT-loop
-Inv-loop rows cols codes outlets grid₀ n p₀ at₀ grid p at =
-    Scan (Counted (gridOf rows cols codes) outlets) rows cols grid₀ grid (p .row) (p .col) at
+Inv-loop rows cols codes outlets words₀ n p₀ at₀ words p at =
+    Scan (Counted (gridOf rows cols codes) outlets) rows cols words₀ words (p .row) (p .col) at
 
 abbrev μ-loop : tie.MeasureT-loop
-μ-loop rows cols codes outlets grid₀ n p₀ at₀ grid p at = rows * cols - at
+μ-loop rows cols codes outlets words₀ n p₀ at₀ words p at = rows * cols - at
 
 mul-n : tie.Need-mul-n Inv-loop μ-loop
-mul-n c = let s = c .before .before .before in omega (arith, mul-le-mul (s .pre .0 .rows-small) (s .pre .0 .cols-small))
+mul-n c = let s = c .before .before .before in omega (arith, size (s .pre .0 .grid .sides))
 
 loop-holds : tie.Need-loop-holds Inv-loop μ-loop
 loop-holds c = let s = c .before .before .before in scan-begin (s .pre .0 .some-cols) (s .pre .1)
@@ -27,17 +27,25 @@ loop-holds c = let s = c .before .before .before in scan-begin (s .pre .0 .some-
 count-cell-requires : tie.Need-count-cell-requires Inv-loop μ-loop
 count-cell-requires c κs =
     let v = c .before .before .loop .inv in (
-      fillable-kept (v .kept) (c .before .before .before .before .before .before .pre .0),
-      (scan-row v (c .before .loop-test .taken), v .col-in, scan-here v),
+      record {
+        fillable = fillable-kept (v .kept) (c .before .before .before .before .before .before .pre .0);
+        row-in = scan-row v (c .before .loop-test .taken);
+        col-in = v .col-in;
+      },
+      scan-here v,
     )
 
 next-requires : tie.Need-next-requires Inv-loop μ-loop
 next-requires c κs =
     let s = c .before .before .before .before .before .before .before .before .before in
     let v = c .before .before .before .before .before .loop .inv in (
-      omega (arith, scan-row v (c .before .before .before .before .loop-test .taken), s .pre .0 .rows-small),
+      omega (
+        arith,
+        scan-row v (c .before .before .before .before .loop-test .taken),
+        s .pre .0 .grid .sides .rows-small,
+      ),
       v .col-in,
-      s .pre .0 .cols-small,
+      s .pre .0 .grid .sides .cols-small,
     )
 
 add-at : tie.Need-add-at Inv-loop μ-loop

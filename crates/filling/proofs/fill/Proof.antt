@@ -5,8 +5,10 @@ use Prim.Native.Nat.{_*_}
 use native.Mathlib.Omega.{arith}
 use borrow.Author.Needs.{needs}
 use borrow.Author.Tests.{not-true, not-false}
-use Rattle.filling.specs.Filling.{Fillable, Kept}
-use Rattle.filling.proofs.Kept.{kept-then, fillable-kept}
+use Rattle.filling.specs.Filling.{Fillable}
+use Rattle.lists.specs.Slices.{Kept}
+use Rattle.lists.proofs.Kept.{kept-then}
+use Rattle.filling.proofs.Kept.{fillable-kept}
 use Rattle.filling.proofs.Results.{outlets-within, counted-begin, looked-begin}
 use Rattle.filling.proofs.Results.{settled-free, settled-filled, waits-ring, cleared-filled}
 use Rattle.filling.proofs.fill.Statement.{statement}
@@ -24,15 +26,15 @@ look-start c = count-start (c .before .before .before .before)
 
 -- beyond the cells every pass keeps what was lent
 kept-flagged : (c : tie.After-flag) → let s = flag-start c .args in
-    Kept (s .rows * s .cols) (s .grid .now) (c .flag .last .1 .1 .0)
+    Kept (s .rows * s .cols) (s .subaccumulation .now) (c .flag .last .1 .1 .0)
 kept-flagged c = kept-then (c .before .before .before .before .clear .ensures .kept) (c .flag .ensures .kept)
 
 kept-counted : (c : tie.After-count-all) → let s = count-start c .args in
-    Kept (s .rows * s .cols) (s .grid .now) (c .count-all .last .1 .1 .1 .1 .0)
+    Kept (s .rows * s .cols) (s .subaccumulation .now) (c .count-all .last .1 .1 .1 .1 .0)
 kept-counted c = kept-then (kept-flagged (c .before .before .before .before)) (c .count-all .ensures .1)
 
 kept-looked : (c : tie.After-look-at-all) → let s = look-start c .args in
-    Kept (s .rows * s .cols) (s .grid .now) (c .look-at-all .last .1 .1 .1 .1 .0)
+    Kept (s .rows * s .cols) (s .subaccumulation .now) (c .look-at-all .last .1 .1 .1 .1 .0)
 kept-looked c = kept-then (kept-counted (c .before .before .before .before)) (c .look-at-all .ensures .1)
 
 looked : (c : tie.After-look-at-all) → let s = look-start c .args in
@@ -49,7 +51,7 @@ flag-requires : tie.Need-flag-requires
 flag-requires c κs =
     let s = c .before .before .before .before .before .before .before .before in
     let k = c .before .before .before .clear .ensures in
-    (omega (arith, s .pre .has-grid, k .kept .same-length), outlets-within (s .pre), k .are-zero)
+    (omega (arith, s .pre .has-words, k .kept .same-length), outlets-within (s .pre), k .are-zero)
 
 count-all-requires : tie.Need-count-all-requires
 count-all-requires c κs =
@@ -76,13 +78,15 @@ returns : tie.Need-returns
 returns c =
     let l = c .before .before .before .before .before .before .before .before .before in
     let s = c .before .before .before .before .before .settled in
-    let d = sym (s .ensures) ∙ not-true (s .result) (c .before .before .before .before .if1 .taken) in (
-      sym (waits-ring (looked l) (l .look-at-all .ensures .0) d),
-      cleared-filled (looked l) (kept-looked l) (c .before .before .clear2 .ensures),
-    )
+    let d = sym (s .ensures) ∙ not-true (s .result) (c .before .before .before .before .if1 .taken) in
+    record {
+      answers = sym (waits-ring (looked l) (l .look-at-all .ensures .0) d);
+      leaves = cleared-filled (looked l) (kept-looked l) (c .before .before .clear2 .ensures);
+    }
 
 strip-requires : tie.Need-strip-requires
-strip-requires c κs = let f = looked (c .before .before .before .before .before .before) in (f .has-grid, outlets-within f)
+strip-requires c κs = let f = looked (c .before .before .before .before .before .before) in
+    (f .has-words, outlets-within f)
 
 same-length-2 : tie.Need-same-length-2
 same-length-2 c = search needs
@@ -92,10 +96,11 @@ returns-2 c =
     let l = c .before .before .before .before .before .before .before .before .before in
     let s = c .before .before .before .before .before .settled in
     let d = sym (s .ensures) ∙ not-false (s .result) (c .before .before .before .before .if1 .left) in
-    let p = l .look-at-all .ensures .0 in (
-      sym (settled-free (looked l) p d),
-      settled-filled (looked l) p d (kept-looked l) (c .before .before .strip .ensures),
-    )
+    let p = l .look-at-all .ensures .0 in
+    record {
+      answers = sym (settled-free (looked l) p d);
+      leaves = settled-filled (looked l) p d (kept-looked l) (c .before .before .strip .ensures);
+    }
 
 pub fill-spec : {M : Type 1} → statement M
 fill-spec =

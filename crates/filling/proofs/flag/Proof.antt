@@ -11,10 +11,10 @@ use Rattle.filling.proofs.flag.Statement.{statement}
 use Rattle.filling.proofs.flag.Tie as tie
 
 abbrev Inv-loop : tie.InvT-loop
-Inv-loop n outlets grid₀ j₀ grid j = (j ≤ length outlets) × Flagged n outlets j grid₀ grid
+Inv-loop n outlets words₀ j₀ words j = (j ≤ length outlets) × Flagged n outlets j words₀ words
 
 abbrev μ-loop : tie.MeasureT-loop
-μ-loop n outlets grid₀ j₀ grid j = length outlets - j
+μ-loop n outlets words₀ j₀ words j = length outlets - j
 
 loop-holds : tie.Need-loop-holds Inv-loop μ-loop
 loop-holds c = (search needs, flag-begin (c .before .before .pre .2))
@@ -28,11 +28,11 @@ shared-slice-read-index-of c = search needs
 index-of-requires : tie.Need-index-of-requires Inv-loop μ-loop
 index-of-requires c κs = search needs
 
-mul-grid : tie.Need-mul-grid Inv-loop μ-loop
-mul-grid c = search needs
+mul-words : tie.Need-mul-words Inv-loop μ-loop
+mul-words c = search needs
 
-slice-write-grid : tie.Need-slice-write-grid Inv-loop μ-loop
-slice-write-grid c =
+slice-write-words : tie.Need-slice-write-words Inv-loop μ-loop
+slice-write-words c =
     let s = c .before .before .before .before .before .before in
     omega (
       arith,
@@ -64,7 +64,8 @@ returns : tie.Need-returns Inv-loop μ-loop
 returns c =
     let s = c .before .before .before .before .args in
     let e : c .before .loop .j ≡ length (s .outlets .now) = omega arith in
-    subst (λ (j : ℕ). Flagged (s .n) (s .outlets .now) j (s .grid .now) (c .before .loop .grid)) e (c .before .loop .inv .1)
+    subst (λ (j : ℕ). Flagged (s .n) (s .outlets .now) j (s .words .now) (c .before .loop .words)) e
+    (c .before .loop .inv .1)
 
 pub flag-spec : {M : Type 1} → statement M
 flag-spec =
@@ -76,8 +77,8 @@ flag-spec =
     mul-index-of
     shared-slice-read-index-of
     index-of-requires
-    mul-grid
-    slice-write-grid
+    mul-words
+    slice-write-words
     add-j
     loop-less
     loop-again

@@ -5,17 +5,17 @@ use mathlib.Core.Bool.{true}
 use Prim.Native.Nat.{_-_, _≤_}
 use native.Mathlib.Omega.{arith}
 use borrow.Author.Needs.{needs}
-use Rattle.ground.specs.Lists.{allBelow}
+use Rattle.lists.specs.Lists.{allBelow}
 use Rattle.filling.specs.Filling.{isSettled}
 use Rattle.filling.proofs.Sweeps.{all-fails, all-more, waits-still, waits-not}
 use Rattle.filling.proofs.settled.Statement.{statement}
 use Rattle.filling.proofs.settled.Tie as tie
 
 abbrev Inv-loop : tie.InvT-loop
-Inv-loop n grid i₀ i = (i ≤ n) × (allBelow (isSettled grid) i ≡ true)
+Inv-loop n words i₀ i = (i ≤ n) × (allBelow (isSettled words) i ≡ true)
 
 abbrev μ-loop : tie.MeasureT-loop
-μ-loop n grid i₀ i = n - i
+μ-loop n words i₀ i = n - i
 
 loop-holds : tie.Need-loop-holds Inv-loop μ-loop
 loop-holds c = (search needs, refl)
@@ -37,14 +37,17 @@ loop-less c = search needs
 
 loop-again : tie.Need-loop-again Inv-loop μ-loop
 loop-again c =
-    let grid = c .before .before .before .before .args .grid .now in
-    let i = c .before .before .before .loop .i in
-    (search needs, all-more (isSettled grid) i (c .before .before .before .loop .inv .1) (waits-not grid i (c .if1 .left)))
+    let words = c .before .before .before .before .args .words .now in
+    let i = c .before .before .before .loop .i in (
+      search needs,
+      all-more (isSettled words) i (c .before .before .before .loop .inv .1)
+          (waits-not words i (c .if1 .left)),
+    )
 
 returns-2 : tie.Need-returns-2 Inv-loop μ-loop
 returns-2 c =
     let e : c .before .loop .i ≡ c .before .before .args .n = omega arith in
-    sym (ap (allBelow (isSettled (c .before .before .args .grid .now))) (sym e) ∙ c .before .loop .inv .1)
+    sym (ap (allBelow (isSettled (c .before .before .args .words .now))) (sym e) ∙ c .before .loop .inv .1)
 
 pub settled-spec : {M : Type 1} → statement M
 settled-spec =

@@ -11,14 +11,15 @@ use Rattle.filling.proofs.strip.Statement.{statement}
 use Rattle.filling.proofs.strip.Tie as tie
 
 abbrev Inv-loop : tie.InvT-loop
-Inv-loop n outlets grid₀ j₀ grid j = (j ≤ length outlets) × Stripped n outlets j grid₀ grid
+Inv-loop n outlets words₀ j₀ words j = (j ≤ length outlets) × Stripped n outlets j words₀ words
 
 abbrev μ-loop : tie.MeasureT-loop
-μ-loop n outlets grid₀ j₀ grid j = length outlets - j
+μ-loop n outlets words₀ j₀ words j = length outlets - j
 
--- an outlet is a place of the grid
-in-grid : (c : tie.After-index-of Inv-loop μ-loop) → c .index-of .result < length (c .before .before .before .loop .grid)
-in-grid c =
+-- an outlet is a place of the words
+in-words : (c : tie.After-index-of Inv-loop μ-loop)
+    → c .index-of .result < length (c .before .before .before .loop .words)
+in-words c =
     let s = c .before .before .before .before .before .before in
     omega (
       arith,
@@ -44,13 +45,13 @@ mul-word : tie.Need-mul-word Inv-loop μ-loop
 mul-word c = search needs
 
 slice-read-word : tie.Need-slice-read-word Inv-loop μ-loop
-slice-read-word c = omega (arith, in-grid (c .before))
+slice-read-word c = omega (arith, in-words (c .before))
 
-mul-grid : tie.Need-mul-grid Inv-loop μ-loop
-mul-grid c = search needs
+mul-words : tie.Need-mul-words Inv-loop μ-loop
+mul-words c = search needs
 
-slice-write-grid : tie.Need-slice-write-grid Inv-loop μ-loop
-slice-write-grid c = omega (arith, in-grid (c .before))
+slice-write-words : tie.Need-slice-write-words Inv-loop μ-loop
+slice-write-words c = omega (arith, in-words (c .before))
 
 add-j : tie.Need-add-j Inv-loop μ-loop
 add-j c = search needs
@@ -74,7 +75,7 @@ returns : tie.Need-returns Inv-loop μ-loop
 returns c =
     let s = c .before .before .before .before .args in
     let e : c .before .loop .j ≡ length (s .outlets .now) = omega arith in
-    subst (λ (j : ℕ). Stripped (s .n) (s .outlets .now) j (s .grid .now) (c .before .loop .grid)) e
+    subst (λ (j : ℕ). Stripped (s .n) (s .outlets .now) j (s .words .now) (c .before .loop .words)) e
     (c .before .loop .inv .1)
 
 pub strip-spec : {M : Type 1} → statement M
@@ -89,8 +90,8 @@ strip-spec =
     index-of-requires
     mul-word
     slice-read-word
-    mul-grid
-    slice-write-grid
+    mul-words
+    slice-write-words
     add-j
     loop-less
     loop-again

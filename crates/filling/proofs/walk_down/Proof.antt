@@ -1,39 +1,41 @@
--- `filling::walk_down` meets its contract. The invariant: the way is at a cell that waits for nothing, or at its end. The
--- measure is what the words add up to.
--- Assumes nothing.
+-- `filling::walk_down` meets its contract. The invariant: the way is at a cell that waits for nothing, or at its end.
+-- The measure is what the words add up to. Assumes nothing.
 use native.Mathlib.Omega.{arith}
 use borrow.Author.Needs.{needs}
-use Rattle.ground.specs.Lists.{sumOf}
+use Rattle.lists.specs.Lists.{sumOf}
 use Rattle.ground.specs.Grid.{gridOf}
-use Rattle.filling.specs.Filling.{HasPlace, Going}
-use Rattle.filling.proofs.Steps.{inside, small, place-of}
+use Rattle.moves.specs.Lent.{OnCell}
+use Rattle.filling.specs.Filling.{Going}
+use Rattle.moves.proofs.Spots.{size, inside}
+use Rattle.filling.proofs.Steps.{on-cell}
 use Rattle.filling.proofs.Descents.{going-begin, going-on, ahead, ahead-less}
 use Rattle.filling.proofs.Kept.{fillable-kept}
 use Rattle.filling.proofs.walk_down.Statement.{statement}
 use Rattle.filling.proofs.walk_down.Tie as tie
 
 abbrev Inv-loop : tie.InvT-loop
-Inv-loop rows cols codes outlets grid₀ row col looked s₀ grid s = Going (gridOf rows cols codes) outlets looked grid₀ grid s
+Inv-loop rows cols codes outlets words₀ row col looked s₀ words s = Going
+    (gridOf rows cols codes) outlets looked words₀ words s
 
 abbrev μ-loop : tie.MeasureT-loop
-μ-loop rows cols codes outlets grid₀ row col looked s₀ grid s = ahead s (sumOf grid)
+μ-loop rows cols codes outlets words₀ row col looked s₀ words s = ahead s (sumOf words)
 
 -- the cell
-place : (s : tie.Start Inv-loop μ-loop)
-    → HasPlace (s .args .rows) (s .args .cols) (s .args .codes .now) (s .args .row) (s .args .col)
-place s = place-of (s .pre .0) (s .pre .1 .0) (s .pre .1 .1)
+cell : (s : tie.Start Inv-loop μ-loop)
+    → OnCell (s .args .rows) (s .args .cols) (s .args .codes .now) (s .args .row) (s .args .col)
+cell s = on-cell (s .pre .0)
 
 mul-looked : tie.Need-mul-looked Inv-loop μ-loop
-mul-looked c = let p = place (c .before .before .before) in omega (arith, inside p, small p)
+mul-looked c = let p = cell (c .before .before .before) in omega (arith, inside p, size (p .grid .sides))
 
 add-looked : tie.Need-add-looked Inv-loop μ-loop
-add-looked c = let p = place (c .before .before .before) in omega (arith, inside p, small p)
+add-looked c = let p = cell (c .before .before .before) in omega (arith, inside p, size (p .grid .sides))
 
 add-looked-2 : tie.Need-add-looked-2 Inv-loop μ-loop
-add-looked-2 c = let p = place (c .before .before .before) in omega (arith, inside p, small p)
+add-looked-2 c = let p = cell (c .before .before .before) in omega (arith, inside p, size (p .grid .sides))
 
 loop-holds : tie.Need-loop-holds Inv-loop μ-loop
-loop-holds c = let s = c .before .before .before in going-begin (s .pre .1 .0) (s .pre .1 .1) (s .pre .1 .2)
+loop-holds c = let s = c .before .before .before in going-begin (s .pre .0 .row-in) (s .pre .0 .col-in) (s .pre .1)
 
 enum-told : tie.Need-enum-told Inv-loop μ-loop
 enum-told c = search needs
@@ -51,8 +53,13 @@ pass-down-requires : tie.Need-pass-down-requires Inv-loop μ-loop
 pass-down-requires c κs =
     let g = c .before .before .before .before .loop .inv in
     let e = c .before .before .s .given .1 in (
-      fillable-kept (g .kept) (c .before .before .before .before .before .before .before .before .pre .0),
-      (g .row-in _ _ e, g .col-in _ _ e, g .is-down _ _ e),
+      record {
+        fillable = fillable-kept (g .kept)
+            (c .before .before .before .before .before .before .before .before .pre .0 .fillable);
+        row-in = g .row-in _ _ e;
+        col-in = g .col-in _ _ e;
+      },
+      g .is-down _ _ e,
     )
 
 loop-less : tie.Need-loop-less Inv-loop μ-loop

@@ -7,59 +7,59 @@ use borrow.Author.Needs.{needs}
 use Rattle.lines.proofs.put_outlet.Statement.{statement}
 use Rattle.lines.proofs.put_outlet.Tie as tie
 
-slice-aggregate-tell : tie.Need-slice-aggregate-tell
-slice-aggregate-tell c = search needs
+slice-aggregate-put-labelled : tie.Need-slice-aggregate-put-labelled
+slice-aggregate-put-labelled c = search needs
 
-tell-requires : tie.Need-tell-requires
-tell-requires c κs = search needs
+put-labelled-requires : tie.Need-put-labelled-requires
+put-labelled-requires c κs = search needs
 
-slice-aggregate-tell-2 : tie.Need-slice-aggregate-tell-2
-slice-aggregate-tell-2 c = search needs
+slice-aggregate-put-labelled-2 : tie.Need-slice-aggregate-put-labelled-2
+slice-aggregate-put-labelled-2 c = search needs
 
-tell-requires-2 : tie.Need-tell-requires-2
-tell-requires-2 c κs = search needs
+put-labelled-requires-2 : tie.Need-put-labelled-requires-2
+put-labelled-requires-2 c κs = search needs
 
-slice-aggregate-tell-3 : tie.Need-slice-aggregate-tell-3
-slice-aggregate-tell-3 c = search needs
+slice-aggregate-put-labelled-3 : tie.Need-slice-aggregate-put-labelled-3
+slice-aggregate-put-labelled-3 c = search needs
 
-tell-requires-3 : tie.Need-tell-requires-3
-tell-requires-3 c κs = search needs
+put-labelled-requires-3 : tie.Need-put-labelled-requires-3
+put-labelled-requires-3 c κs = search needs
 
-slice-aggregate-tell-4 : tie.Need-slice-aggregate-tell-4
-slice-aggregate-tell-4 c = search needs
+slice-aggregate-put-labelled-4 : tie.Need-slice-aggregate-put-labelled-4
+slice-aggregate-put-labelled-4 c = search needs
 
-tell-requires-4 : tie.Need-tell-requires-4
-tell-requires-4 c κs = search needs
+put-labelled-requires-4 : tie.Need-put-labelled-requires-4
+put-labelled-requires-4 c κs = search needs
 
-slice-aggregate-tell-5 : tie.Need-slice-aggregate-tell-5
-slice-aggregate-tell-5 c = search needs
+slice-aggregate-put-labelled-5 : tie.Need-slice-aggregate-put-labelled-5
+slice-aggregate-put-labelled-5 c = search needs
 
-tell-requires-5 : tie.Need-tell-requires-5
-tell-requires-5 c κs = search needs
+put-labelled-requires-5 : tie.Need-put-labelled-requires-5
+put-labelled-requires-5 c κs = search needs
 
-slice-aggregate-tell-6 : tie.Need-slice-aggregate-tell-6
-slice-aggregate-tell-6 c = search needs
+slice-aggregate-put-labelled-6 : tie.Need-slice-aggregate-put-labelled-6
+slice-aggregate-put-labelled-6 c = search needs
 
-tell-requires-6 : tie.Need-tell-requires-6
-tell-requires-6 c κs = search needs
+put-labelled-requires-6 : tie.Need-put-labelled-requires-6
+put-labelled-requires-6 c κs = search needs
 
-slice-aggregate-tell-7 : tie.Need-slice-aggregate-tell-7
-slice-aggregate-tell-7 c = search needs
+slice-aggregate-put-labelled-7 : tie.Need-slice-aggregate-put-labelled-7
+slice-aggregate-put-labelled-7 c = search needs
 
-tell-requires-7 : tie.Need-tell-requires-7
-tell-requires-7 c κs = search needs
+put-labelled-requires-7 : tie.Need-put-labelled-requires-7
+put-labelled-requires-7 c κs = search needs
 
-slice-aggregate-tell-8 : tie.Need-slice-aggregate-tell-8
-slice-aggregate-tell-8 c = search needs
+slice-aggregate-put-labelled-8 : tie.Need-slice-aggregate-put-labelled-8
+slice-aggregate-put-labelled-8 c = search needs
 
-tell-requires-8 : tie.Need-tell-requires-8
-tell-requires-8 c κs = search needs
+put-labelled-requires-8 : tie.Need-put-labelled-requires-8
+put-labelled-requires-8 c κs = search needs
 
-slice-aggregate-tell-9 : tie.Need-slice-aggregate-tell-9
-slice-aggregate-tell-9 c = search needs
+slice-aggregate-put-labelled-9 : tie.Need-slice-aggregate-put-labelled-9
+slice-aggregate-put-labelled-9 c = search needs
 
-tell-requires-9 : tie.Need-tell-requires-9
-tell-requires-9 c κs = search needs
+put-labelled-requires-9 : tie.Need-put-labelled-requires-9
+put-labelled-requires-9 c κs = search needs
 
 slice-aggregate-put-word : tie.Need-slice-aggregate-put-word
 slice-aggregate-put-word c = search needs
@@ -80,15 +80,15 @@ same-length c =
     let t2 = t3 .before .before .before .before .before in
     let t1 = t2 .before .before .before .before .before in
     w .put-word .kept .0
-    ∙ t9 .tell9 .kept .0
-    ∙ t8 .tell8 .kept .0
-    ∙ t7 .tell7 .kept .0
-    ∙ t6 .tell6 .kept .0
-    ∙ t5 .tell5 .kept .0
-    ∙ t4 .tell4 .kept .0
-    ∙ t3 .tell3 .kept .0
-    ∙ t2 .tell2 .kept .0
-    ∙ t1 .tell .kept .0
+    ∙ t9 .put-labelled9 .kept .0
+    ∙ t8 .put-labelled8 .kept .0
+    ∙ t7 .put-labelled7 .kept .0
+    ∙ t6 .put-labelled6 .kept .0
+    ∙ t5 .put-labelled5 .kept .0
+    ∙ t4 .put-labelled4 .kept .0
+    ∙ t3 .put-labelled3 .kept .0
+    ∙ t2 .put-labelled2 .kept .0
+    ∙ t1 .put-labelled .kept .0
 
 returns : tie.Need-returns
 unfolding outletLine
@@ -103,30 +103,34 @@ returns c =
     let t3 = t4 .before .before .before .before .before in
     let t2 = t3 .before .before .before .before .before in
     let t1 = t2 .before .before .before .before .before in
-    appends-both (t1 .tell .ensures) (appends-both (t2 .tell2 .ensures) (appends-both (t3 .tell3 .ensures) (appends-both (t4 .tell4 .ensures) (appends-both (t5 .tell5 .ensures) (appends-both (t6 .tell6 .ensures) (appends-both (t7 .tell7 .ensures) (appends-both (t8 .tell8 .ensures) (appends-both (t9 .tell9 .ensures) (w .put-word .ensures)))))))))
+    appends-both (t1 .put-labelled .ensures) (appends-both (t2 .put-labelled2 .ensures)
+    (appends-both (t3 .put-labelled3 .ensures) (appends-both (t4 .put-labelled4 .ensures)
+    (appends-both (t5 .put-labelled5 .ensures) (appends-both (t6 .put-labelled6 .ensures)
+    (appends-both (t7 .put-labelled7 .ensures) (appends-both (t8 .put-labelled8 .ensures)
+    (appends-both (t9 .put-labelled9 .ensures) (w .put-word .ensures)))))))))
 
 pub put-outlet-spec : {M : Type 1} → statement M
 put-outlet-spec =
     tie.close
     (tie.spec
-    slice-aggregate-tell
-    tell-requires
-    slice-aggregate-tell-2
-    tell-requires-2
-    slice-aggregate-tell-3
-    tell-requires-3
-    slice-aggregate-tell-4
-    tell-requires-4
-    slice-aggregate-tell-5
-    tell-requires-5
-    slice-aggregate-tell-6
-    tell-requires-6
-    slice-aggregate-tell-7
-    tell-requires-7
-    slice-aggregate-tell-8
-    tell-requires-8
-    slice-aggregate-tell-9
-    tell-requires-9
+    slice-aggregate-put-labelled
+    put-labelled-requires
+    slice-aggregate-put-labelled-2
+    put-labelled-requires-2
+    slice-aggregate-put-labelled-3
+    put-labelled-requires-3
+    slice-aggregate-put-labelled-4
+    put-labelled-requires-4
+    slice-aggregate-put-labelled-5
+    put-labelled-requires-5
+    slice-aggregate-put-labelled-6
+    put-labelled-requires-6
+    slice-aggregate-put-labelled-7
+    put-labelled-requires-7
+    slice-aggregate-put-labelled-8
+    put-labelled-requires-8
+    slice-aggregate-put-labelled-9
+    put-labelled-requires-9
     slice-aggregate-put-word
     put-word-requires
     same-length

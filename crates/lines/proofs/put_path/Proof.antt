@@ -6,17 +6,17 @@ use borrow.Author.Needs.{needs}
 use Rattle.lines.proofs.put_path.Statement.{statement}
 use Rattle.lines.proofs.put_path.Tie as tie
 
-slice-aggregate-tell : tie.Need-slice-aggregate-tell
-slice-aggregate-tell c = search needs
+slice-aggregate-put-labelled : tie.Need-slice-aggregate-put-labelled
+slice-aggregate-put-labelled c = search needs
 
-tell-requires : tie.Need-tell-requires
-tell-requires c κs = search needs
+put-labelled-requires : tie.Need-put-labelled-requires
+put-labelled-requires c κs = search needs
 
-slice-aggregate-tell-2 : tie.Need-slice-aggregate-tell-2
-slice-aggregate-tell-2 c = search needs
+slice-aggregate-put-labelled-2 : tie.Need-slice-aggregate-put-labelled-2
+slice-aggregate-put-labelled-2 c = search needs
 
-tell-requires-2 : tie.Need-tell-requires-2
-tell-requires-2 c κs = search needs
+put-labelled-requires-2 : tie.Need-put-labelled-requires-2
+put-labelled-requires-2 c κs = search needs
 
 slice-aggregate-put-word : tie.Need-slice-aggregate-put-word
 slice-aggregate-put-word c = search needs
@@ -33,16 +33,16 @@ returns c =
     let w = c .before .before in
     let t2 = w .before .before .before .before .before in
     let t1 = t2 .before .before .before .before .before in
-    appends-both (t1 .tell .ensures) (appends-both (t2 .tell2 .ensures) (w .put-word .ensures))
+    appends-both (t1 .put-labelled .ensures) (appends-both (t2 .put-labelled2 .ensures) (w .put-word .ensures))
 
 pub put-path-spec : {M : Type 1} → statement M
 put-path-spec =
     tie.close
     (tie.spec
-    slice-aggregate-tell
-    tell-requires
-    slice-aggregate-tell-2
-    tell-requires-2
+    slice-aggregate-put-labelled
+    put-labelled-requires
+    slice-aggregate-put-labelled-2
+    put-labelled-requires-2
     slice-aggregate-put-word
     put-word-requires
     same-length

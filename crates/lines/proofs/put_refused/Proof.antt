@@ -6,11 +6,11 @@ use borrow.Author.Needs.{needs}
 use Rattle.lines.proofs.put_refused.Statement.{statement}
 use Rattle.lines.proofs.put_refused.Tie as tie
 
-slice-aggregate-tell : tie.Need-slice-aggregate-tell
-slice-aggregate-tell c = search needs
+slice-aggregate-put-labelled : tie.Need-slice-aggregate-put-labelled
+slice-aggregate-put-labelled c = search needs
 
-tell-requires : tie.Need-tell-requires
-tell-requires c κs = search needs
+put-labelled-requires : tie.Need-put-labelled-requires
+put-labelled-requires c κs = search needs
 
 slice-aggregate-put-word : tie.Need-slice-aggregate-put-word
 slice-aggregate-put-word c = search needs
@@ -26,14 +26,14 @@ unfolding refusedLine
 returns c =
     let w = c .before .before in
     let t1 = w .before .before .before .before .before in
-    appends-both (t1 .tell .ensures) (w .put-word .ensures)
+    appends-both (t1 .put-labelled .ensures) (w .put-word .ensures)
 
 pub put-refused-spec : {M : Type 1} → statement M
 put-refused-spec =
     tie.close
     (tie.spec
-    slice-aggregate-tell
-    tell-requires
+    slice-aggregate-put-labelled
+    put-labelled-requires
     slice-aggregate-put-word
     put-word-requires
     same-length

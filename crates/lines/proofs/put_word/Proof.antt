@@ -1,7 +1,7 @@
 -- `lines::put_word` meets its contract: as many bytes of the word as were turned to are put.
 -- Assumes nothing.
 use mathlib.Core.Path.{_≡_, refl, sym, ap, _∙_}
-use Prim.Native.Nat.{ℕ, _+_, _-_, _≤_}
+use Prim.Native.Nat.{ℕ, _-_, _≤_}
 use native.Mathlib.Numerals.{add-one}
 use native.Mathlib.Omega.{arith}
 use lib.ListN.{length, take}
@@ -42,7 +42,8 @@ loop-again c =
     let p = c .before .before .put in
     let inside = c .before .before .before .before .before .loop-test .taken in (
       omega (arith, inside),
-      appends-as (sym (ap (λ (n : ℕ). take n (a .word .now)) (add-one (l .i)) ∙ take-suc (a .word .now) (l .i) 0 inside))
+      appends-as
+          (sym (ap (λ (n : ℕ). take n (a .word .now)) (add-one (l .i)) ∙ take-suc (a .word .now) (l .i) 0 inside))
           (appends-both (l .inv .1) (p .ensures)),
       p .kept .0 ∙ l .inv .2,
     )

@@ -1,23 +1,21 @@
 -- `progress::is_dropped` meets its contract: each return is one case of the drop test.
 -- Assumes nothing.
-use mathlib.Core.Path.{_≡_, sym, _∙_}
+use mathlib.Core.Path.{sym, _∙_}
+use mathlib.Core.Bool.{and-false}
 use borrow.Author.Tests.{not-true, not-false}
 use Rattle.lengths.specs.declared.Order.the-variants.{Shorter, Same, Longer}
-use Rattle.progress.proofs.Kept.{not-dropping, none-met, limit-says}
+use Rattle.progress.proofs.Kept.{none-met, limit-says}
 use borrow.Author.Needs.{needs}
 use Rattle.progress.proofs.is_dropped.Statement.{statement}
 use Rattle.progress.proofs.is_dropped.Tie as tie
 
 returns : tie.Need-returns
-returns c = λ s cs e. not-dropping (c .before .args .from) (c .before .args .n) (c .before .args .p) s cs e
-    (c .before .args .dropping) (not-true (c .before .args .dropping) (c .if1 .taken))
+returns c = rw (not-true (c .before .args .dropping) (c .if1 .taken))
 
 returns-2 : tie.Need-returns-2
-returns-2 c = λ s cs e. none-met (c .before .before .before .args .from) (c .before .before .before .args .n)
-    (c .before .before .before .args .p) s cs e (c .before .before .before .args .dropping) (c .if2 .taken)
-
-add-t8 : tie.Need-add-t8
-add-t8 c = search needs
+returns-2 c =
+    let a = c .before .before .before .args in
+    rw (none-met (a .limit) (a .p) (c .if2 .taken)) (sym (and-false (a .dropping)))
 
 compare-requires : tie.Need-compare-requires
 compare-requires c κs = search needs
@@ -32,34 +30,25 @@ enum-told-3 : tie.Need-enum-told-3
 enum-told-3 c = search needs
 
 returns-3 : tie.Need-returns-3
-returns-3 c = λ s cs e. limit-says (c .before .before .before .before .before .before .before .before .args .from)
-    (c .before .before .before .before .before .before .before .before .args .n)
-    (c .before .before .before .before .before .before .before .before .args .p) s cs e
-    (c .before .before .before .before .before .before .before .before .args .dropping)
-    (not-false (c .before .before .before .before .before .before .before .before .args .dropping)
-    (c .before .before .before .before .before .before .before .if1 .left))
-    (c .before .before .before .before .before .if2 .left) Shorter (sym (c .before .before .compare .ensures)
-    ∙ c .enum-told .given .1)
+returns-3 c =
+    let a = c .before .before .before .before .before .before .before .args in
+    let says = limit-says (a .limit) (a .p) (c .before .before .before .before .if2 .left) Shorter
+    (sym (c .before .before .compare .ensures) ∙ c .enum-told .given .1) in
+    rw (not-false (a .dropping) (c .before .before .before .before .before .before .if1 .left), says)
 
 returns-4 : tie.Need-returns-4
-returns-4 c = λ s cs e. limit-says (c .before .before .before .before .before .before .before .before .args .from)
-    (c .before .before .before .before .before .before .before .before .args .n)
-    (c .before .before .before .before .before .before .before .before .args .p) s cs e
-    (c .before .before .before .before .before .before .before .before .args .dropping)
-    (not-false (c .before .before .before .before .before .before .before .before .args .dropping)
-    (c .before .before .before .before .before .before .before .if1 .left))
-    (c .before .before .before .before .before .if2 .left) Same (sym (c .before .before .compare .ensures)
-    ∙ c .enum-told2 .given .1)
+returns-4 c =
+    let a = c .before .before .before .before .before .before .before .args in
+    let says = limit-says (a .limit) (a .p) (c .before .before .before .before .if2 .left) Same
+    (sym (c .before .before .compare .ensures) ∙ c .enum-told2 .given .1) in
+    rw (not-false (a .dropping) (c .before .before .before .before .before .before .if1 .left), says)
 
 returns-5 : tie.Need-returns-5
-returns-5 c = λ s cs e. limit-says (c .before .before .before .before .before .before .before .before .args .from)
-    (c .before .before .before .before .before .before .before .before .args .n)
-    (c .before .before .before .before .before .before .before .before .args .p) s cs e
-    (c .before .before .before .before .before .before .before .before .args .dropping)
-    (not-false (c .before .before .before .before .before .before .before .before .args .dropping)
-    (c .before .before .before .before .before .before .before .if1 .left))
-    (c .before .before .before .before .before .if2 .left) Longer (sym (c .before .before .compare .ensures)
-    ∙ c .enum-told3 .given .1)
+returns-5 c =
+    let a = c .before .before .before .before .before .before .before .args in
+    let says = limit-says (a .limit) (a .p) (c .before .before .before .before .if2 .left) Longer
+    (sym (c .before .before .compare .ensures) ∙ c .enum-told3 .given .1) in
+    rw (not-false (a .dropping) (c .before .before .before .before .before .before .if1 .left), says)
 
 pub is-dropped-spec : {M : Type 1} → statement M
 is-dropped-spec =
@@ -67,7 +56,6 @@ is-dropped-spec =
     (tie.spec
     returns
     returns-2
-    add-t8
     compare-requires
     enum-told
     enum-told-2

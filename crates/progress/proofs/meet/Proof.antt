@@ -1,6 +1,6 @@
 -- `progress::meet` meets its contract: each return is one case of a length met.
 -- Assumes nothing.
-use mathlib.Core.Path.{_≡_, sym, _∙_}
+use mathlib.Core.Path.{sym, _∙_}
 use Rattle.progress.specs.Starts.{kept}
 use Rattle.progress.proofs.Kept.{
   met-shorter,

@@ -1,6 +1,6 @@
 -- `progress::visit` meets its contract: one more cell is counted, and a headwater meets its length.
 -- Assumes nothing.
-use Rattle.progress.proofs.Kept.{visited-head, visited-inner}
+use Rattle.progress.proofs.Kept.{visited-met, visited-past}
 use borrow.Author.Needs.{needs}
 use Rattle.progress.proofs.visit.Statement.{statement}
 use Rattle.progress.proofs.visit.Tie as tie
@@ -20,13 +20,13 @@ returns : tie.Need-returns
 returns c =
     let a = c .before .before .before .before .before .before .before .before .args in
     let m = c .before .before .meet in
-    visited-head (a .work .now) (m .last .0) (a .end) (a .cell) (a .n) (a .len) (a .p) (m .result)
+    visited-met (a .work .now) (m .last .0) (a .end) (a .cell) (a .met) (a .len) (a .p) (m .result)
     (c .before .before .before .before .if1 .taken) (m .ensures)
 
 returns-2 : tie.Need-returns-2
 returns-2 c =
     let a = c .before .before .before .before .args in
-    visited-inner (a .work .now) (a .end) (a .cell) (a .n) (a .len) (a .p) (c .if1 .left)
+    visited-past (a .work .now) (a .end) (a .cell) (a .met) (a .len) (a .p) (c .if1 .left)
 
 pub visit-spec : {M : Type 1} → statement M
 visit-spec = tie.close (tie.spec add-t9 meet-requires same-length returns returns-2)

@@ -1,43 +1,34 @@
 -- The two functions of the cycle meet their contracts. The measure is the number of cells, then the neighbours left.
 -- Assumes nothing.
-use mathlib.Core.Path.{_≡_, sym, ap, _∙_, subst}
+use mathlib.Core.Path.{sym, subst}
 use Prim.Native.Nat.{ℕ, _+_, _-_, _*_, _<_}
 use native.Mathlib.Omega.{arith}
 use lib.ListN.{getD}
 use borrow.Fn.Kinds.{In}
 use borrow.Fn.PlainCycle.{Measures, is, falls, and}
-use Rattle.lengths.specs.Rule.{plusStep}
+use borrow.Author.Needs.{needs}
 use Rattle.recursion.specs.Tracing.{InflowsReady, InflowsTraced}
 use Rattle.recursion.proofs.Cell.{cells-read, has-place, has-room, inflows-ready, cell-traced}
-use Rattle.recursion.proofs.Inflows.{
-  inflows-done,
-  told-cells,
-  fewer,
-  small-cells,
-  small-len,
-  drop-ready,
-  drop-traced,
-  cell-ready,
-  rest-ready,
-  rest-traced,
-}
+use Rattle.recursion.proofs.Inflows.{inflows-done, fewer, small-cells, small-len, cells-lent}
+use Rattle.recursion.proofs.Inflows.{drop-ready, drop-traced, cell-ready, rest-ready, rest-traced}
 use Rattle.recursion.proofs.trace_cell.Reads as trace-cell
 use Rattle.recursion.proofs.trace_cell.Kinds as trace-cell-kinds
 use Rattle.recursion.proofs.+trace_cell+trace_inflows.Lts-trace_cell as trace-cell-lts
 use Rattle.recursion.proofs.trace_inflows.Reads as trace-inflows
 use Rattle.recursion.proofs.trace_inflows.Kinds as trace-inflows-kinds
 use Rattle.recursion.proofs.+trace_cell+trace_inflows.Lts-trace_inflows as trace-inflows-lts
+use Rattle.lengths.proofs.Length.farthest.Reads as farthest-reads
 use Rattle.lengths.proofs.Length.plus.Reads as plus-reads
 use Rattle.progress.proofs.drop_cells.Reads as drop-cells-reads
 use Rattle.progress.proofs.is_dropped.Reads as is-dropped-reads
 use Rattle.recursion.proofs.next_turn.Reads as next-turn-reads
-use Rattle.recursion.proofs.step_from.Reads as step-from-reads
 use Rattle.recursion.proofs.visit_at.Reads as visit-at-reads
 use Rattle.recursion.proofs.+trace_cell+trace_inflows.{statement}
 use Rattle.recursion.proofs.+trace_cell+trace_inflows.Tie.{close}
 
 abbrev μ-trace-cell : Measures 4 trace-cell-kinds.ps ℕ
-μ-trace-cell κs a = getD (a .1 .1 .1 .1 .0 .now) (a .1 .1 .1 .1 .1 .1 .0 * a .1 .0 + a .1 .1 .1 .1 .1 .1 .1 .0) 0 * 10 + 9
+μ-trace-cell κs a = getD (a .1 .1 .1 .1 .0 .now)
+    (a .1 .1 .1 .1 .1 .1 .0 * a .1 .0 + a .1 .1 .1 .1 .1 .1 .1 .0) 0 * 10 + 9
 
 abbrev μ-trace-inflows : Measures 4 trace-inflows-kinds.ps ℕ
 μ-trace-inflows κs a = getD (a .1 .1 .1 .1 .0 .now) (a .1 .1 .1 .1 .1 .1 .0 * a .1 .0 + a .1 .1 .1 .1 .1 .1 .1 .0)
@@ -66,14 +57,14 @@ module _ (t : ℕ) where
   in-inflows = (
     next-turn-reads.Asked,
     next-turn-reads.Learnt,
+    farthest-reads.Asked,
+    farthest-reads.Learnt,
     is-dropped-reads.Asked,
     is-dropped-reads.Learnt,
     drop-cells-reads.Asked,
     drop-cells-reads.Learnt,
     trace-inflows-below,
     trace-inflows.Post,
-    step-from-reads.Asked,
-    step-from-reads.Learnt,
     plus-reads.Asked,
     plus-reads.Learnt,
     trace-cell-below,
@@ -107,17 +98,12 @@ module _ (t : ℕ) where
   inflows-next-requires c κs =
       let s = c .before .before .before in
       let ready = s .pre .1 .0 in
-      let here = s .pre .1 .1 in (
-        record {
-          rows-small = ready .rows-small;
-          cols-small = ready .cols-small;
-          has-codes = ready .has-codes;
-          row-in = here .row-in;
-          col-in = here .col-in;
-        },
-        ready .has-subs,
-        here .within,
-      )
+      let here = s .pre .1 .1 in
+      record {
+        on = record { grid = ready .grid; row-in = here .row-in; col-in = here .col-in };
+        has-subs = ready .has-subs;
+        within = here .within;
+      }
 
   inflows-returns : trace-inflows-lts.Need-returns in-inflows trace-inflows-at trace-inflows.Post
   inflows-returns c =
@@ -128,8 +114,8 @@ module _ (t : ℕ) where
   add-left : trace-inflows-lts.Need-add-left in-inflows trace-inflows-at trace-inflows.Post
   add-left c = let n = c .before .before .before in omega (arith, n .next-turn .ensures .last)
 
-  is-dropped-requires : trace-inflows-lts.Need-is-dropped-requires in-inflows trace-inflows-at trace-inflows.Post
-  is-dropped-requires c κs =
+  farthest-requires : trace-inflows-lts.Need-farthest-requires in-inflows trace-inflows-at trace-inflows.Post
+  farthest-requires c κs =
       let n = c .before .before .before in
       let s = n .before .before .before .before in
       let h = c .before .if1 .left in (
@@ -137,17 +123,24 @@ module _ (t : ℕ) where
         omega (arith, small-cells (s .pre .1 .0) (s .args .dropping) (s .pre .1 .1) (n .next-turn .ensures) h),
       )
 
+  is-dropped-requires : trace-inflows-lts.Need-is-dropped-requires in-inflows trace-inflows-at trace-inflows.Post
+  is-dropped-requires c κs = search needs
+
   drop-cells-requires : trace-inflows-lts.Need-drop-cells-requires in-inflows trace-inflows-at trace-inflows.Post
   drop-cells-requires c κs =
-      let e = c .before .before .before in
+      let e = c .before .before .before .before in
       let n = e .before .before in
       let s = n .before .before .before .before in
-      omega (arith, small-cells (s .pre .1 .0) (s .args .dropping) (s .pre .1 .1) (n .next-turn .ensures) (e .if1 .left))
+      omega (
+        arith,
+        small-cells (s .pre .1 .0) (s .args .dropping) (s .pre .1 .1) (n .next-turn .ensures)
+            (e .if1 .left),
+      )
 
   dropped-requires : trace-inflows-lts.Need-trace-inflows-requires in-inflows trace-inflows-at trace-inflows.Post
   dropped-requires c κs =
       let d = c .before in
-      let e = d .before .before .before .before in
+      let e = d .before .before .before .before .before in
       let n = e .before .before in
       let s = n .before .before .before .before in
       let a = s .args in (
@@ -157,27 +150,26 @@ module _ (t : ℕ) where
           subst (λ q. InflowsReady (a .rows) (a .cols) (a .codes .now) (a .outlets .now) (a .row) (a .col)
               (a .len) (n .next-turn .result .k + 1) q (a .found .now)) (sym (d .drop-cells .ensures))
               (drop-ready (s .pre .1 .0) (a .dropping) (s .pre .1 .1) (n .next-turn .ensures) (e .if1 .left)
-              (d .before .before .is-dropped .ensures)),
+              (d .before .before .before .farthest .ensures) (d .before .before .is-dropped .ensures)),
         ),
       )
 
   dropped-returns : trace-inflows-lts.Need-returns-2 in-inflows trace-inflows-at trace-inflows.Post
   dropped-returns c =
       let d = c .before .before in
-      let e = d .before .before .before .before in
+      let e = d .before .before .before .before .before in
       let n = e .before .before in
       let s = n .before .before .before .before in
       let a = s .args in
       let i = c .trace-inflows in
       drop-traced (s .pre .1 .0) (a .dropping) (s .pre .1 .1) (n .next-turn .ensures) (e .if1 .left)
-      (d .before .before .is-dropped .ensures) (d .before .if2 .taken) (i .result)
+      (d .before .before .before .farthest .ensures) (d .before .before .is-dropped .ensures) (d .before .if2 .taken)
+      (i .result)
       (i .last .1 .1 .1 .1 .1 .1 .1 .1 .1 .1 .1 .0)
       (subst (λ q. InflowsTraced (a .rows) (a .cols) (a .codes .now) (a .outlets .now) (a .dropping) (a .row) (a .col)
-      (a .len) (n .next-turn .result .k + 1) q (a .found .now) (i .result) (i .last .1 .1 .1 .1 .1 .1 .1 .1 .1 .1 .1 .0))
+      (a .len) (n .next-turn .result .k + 1) q (a .found .now) (i .result)
+      (i .last .1 .1 .1 .1 .1 .1 .1 .1 .1 .1 .1 .0))
       (d .drop-cells .ensures) (i .ensures))
-
-  step-from-requires : trace-inflows-lts.Need-step-from-requires in-inflows trace-inflows-at trace-inflows.Post
-  step-from-requires c κs = c .before .before .before .if1 .left
 
   plus-requires : trace-inflows-lts.Need-plus-requires in-inflows trace-inflows-at trace-inflows.Post
   plus-requires c κs =
@@ -190,8 +182,8 @@ module _ (t : ℕ) where
   traced-requires : trace-inflows-lts.Need-trace-cell-requires in-inflows trace-inflows-at trace-inflows.Post
   traced-requires c κs =
       let p = c .before in
-      let d = p .before .before .before in
-      let e = d .before .before in
+      let d = p .before .before in
+      let e = d .before .before .before in
       let n = e .before .before in
       let s = n .before .before .before .before in
       let a = s .args in
@@ -201,14 +193,15 @@ module _ (t : ℕ) where
           arith,
           s .pre .0,
           fewer ready (a .dropping) here (n .next-turn .ensures) (e .if1 .left),
-          n .next-turn .ensures .counted (e .if1 .left),
+          cells-lent ready (a .dropping) here (n .next-turn .ensures) (e .if1 .left),
           cells-read ready (a .row) (a .col) (here .row-in) (here .col-in),
         ),
         (
           ready,
-          cell-ready ready (a .dropping) here (n .next-turn .ensures) (e .if1 .left) (d .is-dropped .ensures)
-              (p .before .before .if2 .left)
-              (p .plus .ensures ∙ ap (plusStep (a .len)) (p .before .step-from .ensures)),
+          cell-ready ready (a .dropping) here (n .next-turn .ensures) (e .if1 .left) (d .before .farthest .ensures)
+              (d .is-dropped .ensures)
+              (p .before .if2 .left)
+              (p .plus .ensures),
         ),
       )
 
@@ -216,8 +209,8 @@ module _ (t : ℕ) where
   rest-requires c κs =
       let q = c .before .trace-cell in
       let p = c .before .before .before in
-      let d = p .before .before .before in
-      let e = d .before .before in
+      let d = p .before .before in
+      let e = d .before .before .before in
       let n = e .before .before in
       let s = n .before .before .before .before in
       let a = s .args in (
@@ -225,8 +218,8 @@ module _ (t : ℕ) where
         (
           s .pre .1 .0,
           rest-ready (s .pre .1 .0) (a .dropping) (s .pre .1 .1) (n .next-turn .ensures) (e .if1 .left)
-              (d .is-dropped .ensures) (p .before .before .if2 .left)
-              (p .plus .ensures ∙ ap (plusStep (a .len)) (p .before .step-from .ensures)) (q .ensures),
+              (d .before .farthest .ensures) (d .is-dropped .ensures) (p .before .if2 .left)
+              (p .plus .ensures) (q .ensures),
         ),
       )
 
@@ -235,14 +228,14 @@ module _ (t : ℕ) where
       let i = c .trace-inflows2 in
       let q = c .before .before .trace-cell in
       let p = c .before .before .before .before in
-      let d = p .before .before .before in
-      let e = d .before .before in
+      let d = p .before .before in
+      let e = d .before .before .before in
       let n = e .before .before in
       let s = n .before .before .before .before in
       let a = s .args in
       rest-traced (s .pre .1 .0) (a .dropping) (s .pre .1 .1) (n .next-turn .ensures) (e .if1 .left)
-      (d .is-dropped .ensures) (p .before .before .if2 .left)
-      (p .plus .ensures ∙ ap (plusStep (a .len)) (p .before .step-from .ensures)) (q .ensures) (i .result)
+      (d .before .farthest .ensures) (d .is-dropped .ensures) (p .before .if2 .left)
+      (p .plus .ensures) (q .ensures) (i .result)
       (i .last .1 .1 .1 .1 .1 .1 .1 .1 .1 .1 .1 .0) (i .ensures)
 
 pub +trace-cell+trace-inflows-spec : {M : Type 1} → statement M
@@ -250,6 +243,7 @@ pub +trace-cell+trace-inflows-spec : {M : Type 1} → statement M
     (λ t. trace-cell-lts.spec (in-cell t) (trace-cell-at t) trace-cell.Post (cell-visit-requires t)
     (cell-inflows-requires t) (cell-returns t))
     λ t. trace-inflows-lts.spec (in-inflows t) (trace-inflows-at t) trace-inflows.Post (inflows-next-requires t)
-    (inflows-returns t) (add-left t) (is-dropped-requires t) (drop-cells-requires t) (dropped-requires t)
-    (dropped-returns t) (step-from-requires t) (plus-requires t) (traced-requires t) (rest-requires t)
+    (inflows-returns t) (add-left t) (farthest-requires t) (is-dropped-requires t) (drop-cells-requires t)
+    (dropped-requires t)
+    (dropped-returns t) (plus-requires t) (traced-requires t) (rest-requires t)
     (rest-returns t)

@@ -1,63 +1,59 @@
 -- `recursion::next_turn` meets its contract: in all directions passed over there was nothing to turn to.
 -- Assumes nothing.
-use mathlib.Core.Path.{_≡_, sym, ap, _∙_}
+use mathlib.Core.Path.{_≡_}
 use mathlib.Core.Option.{none}
 use Prim.Native.Nat.{ℕ, _+_, _-_, _*_, _≤_, _<_}
 use native.Mathlib.Omega.{arith}
+use lib.Arith.{digits-lt}
 use borrow.Author.Needs.{needs}
+use Rattle.moves.proofs.Spots.{size}
 use Rattle.ground.specs.Grid.{gridOf}
-use Rattle.ground.specs.Moves.{spotCell, dirAt}
+use Rattle.moves.specs.Moves.{dirAt}
 use Rattle.search.specs.Neighbours.{inflowIn}
-use Rattle.recursion.proofs.Turning.{one-further, cell-fits}
+use Rattle.recursion.proofs.Turning.{one-further, next-found}
+use Rattle.upstream.proofs.Turning.{nothing-there}
 use Rattle.recursion.proofs.next_turn.Statement.{statement}
 use Rattle.recursion.proofs.next_turn.Tie as tie
 
 abbrev Inv-loop : tie.InvT-loop
-Inv-loop rows cols codes outlets subs row col k n₀ n =
+Inv-loop rows cols codes outlets subaccumulation row col k n₀ n =
     (k ≤ n)
     × (n ≤ 8)
     × ((i : ℕ) → k ≤ i → i < n → inflowIn (gridOf rows cols codes) outlets (row * cols + col) (dirAt i) ≡ none)
 
 abbrev μ-loop : tie.MeasureT-loop
-μ-loop rows cols codes outlets subs row col k n₀ n = 8 - n
+μ-loop rows cols codes outlets subaccumulation row col k n₀ n = 8 - n
 
 loop-holds : tie.Need-loop-holds Inv-loop μ-loop
-loop-holds c = (omega arith, c .before .before .before .pre .2, λ i h l. absurd (omega arith))
+loop-holds c = (omega arith, c .before .before .before .pre .within, λ i h l. absurd (omega arith))
 
 add-n : tie.Need-add-n Inv-loop μ-loop
 add-n c = search needs
 
-inflow-from-requires : tie.Need-inflow-from-requires Inv-loop μ-loop
-inflow-from-requires c κs = c .before .before .before .before .before .pre .0
+tributary-from-requires : tie.Need-tributary-from-requires Inv-loop μ-loop
+tributary-from-requires c κs = c .before .before .before .before .before .pre .on
 
 enum-known-r : tie.Need-enum-known-r Inv-loop μ-loop
 enum-known-r c = search needs
 
-cells-at-requires : tie.Need-cells-at-requires Inv-loop μ-loop
-cells-at-requires c κs =
+turn-at-requires : tie.Need-turn-at-requires Inv-loop μ-loop
+turn-at-requires c κs =
     let s = c .before .before .before .before .before .before .before .before .before in
-    let a = s .args in
-    let f = c .before .before .before .inflow-from .ensures in
+    let f = c .before .before .before .tributary-from .ensures in
     let g = c .before .r .given in
-    let fits = cell-fits (a .rows) (a .cols) (g .0 .0) (g .0 .1 .0) (s .pre .0 .rows-small) (s .pre .0 .cols-small)
-    (f .row-in (g .0 .0) (g .0 .1 .0) (g .1)) (f .col-in (g .0 .0) (g .0 .1 .0) (g .1)) in
-    (omega (arith, fits, s .pre .1), omega (arith, fits))
+    let h = digits-lt (f .row-in (g .0 .0) (g .0 .1 .0) (g .1)) (f .col-in (g .0 .0) (g .0 .1 .0) (g .1)) in
+    let p = s .pre in (
+      omega (arith, h, p .on .grid .has-codes),
+      omega (arith, h, p .has-subs),
+      omega
+          (arith, h, size (p .on .grid .sides)),
+    )
 
 returns : tie.Need-returns Inv-loop μ-loop
 returns c =
     let l = c .before .before .before .before .before .before .loop in
-    let f = c .before .before .before .before .inflow-from .ensures in
-    let g = c .before .before .r .given in
-    record {
-      from = l .inv .0;
-      last = l .inv .1;
-      skipped = l .inv .2;
-      there = λ h. sym (f .is-cell)
-          ∙ ap (spotCell (c .before .before .before .before .before .before .before .before .before .before .args .cols)) (g .1);
-      row-in = λ h. f .row-in (g .0 .0) (g .0 .1 .0) (g .1);
-      col-in = λ h. f .col-in (g .0 .0) (g .0 .1 .0) (g .1);
-      counted = λ h. c .cells-at .ensures;
-    }
+    next-found (l .inv .0) (l .inv .1) (l .inv .2) (c .before .before .before .before .tributary-from .ensures)
+    (c .before .before .r .given .1) (c .turn-at .ensures)
 
 enum-told : tie.Need-enum-told Inv-loop μ-loop
 enum-told c = search needs
@@ -69,12 +65,12 @@ loop-again : tie.Need-loop-again Inv-loop μ-loop
 loop-again c =
     let l = c .before .before .before .before .loop in
     let a = c .before .before .before .before .before .before .before .before .args in
-    let f = c .before .before .inflow-from .ensures in (
+    let f = c .before .before .tributary-from .ensures in (
       omega arith,
       omega arith,
       one-further (λ i. inflowIn (gridOf (a .rows) (a .cols) (a .codes .now)) (a .outlets .now)
           (a .row * a .cols + a .col) (dirAt i) ≡ none) (a .k) (l .n) (l .inv .2)
-          (sym (f .is-cell) ∙ ap (spotCell (a .cols)) (c .enum-told .given .1)),
+          (nothing-there f (c .enum-told .given .1)),
     )
 
 returns-2 : tie.Need-returns-2 Inv-loop μ-loop
@@ -88,7 +84,7 @@ returns-2 c =
       there = λ h. absurd (omega arith);
       row-in = λ h. absurd (omega arith);
       col-in = λ h. absurd (omega arith);
-      counted = λ h. absurd (omega arith);
+      is-turn = λ h. absurd (omega arith);
     }
 
 pub next-turn-spec : {M : Type 1} → statement M
@@ -99,9 +95,9 @@ next-turn-spec =
     μ-loop
     loop-holds
     add-n
-    inflow-from-requires
+    tributary-from-requires
     enum-known-r
-    cells-at-requires
+    turn-at-requires
     returns
     enum-told
     loop-less

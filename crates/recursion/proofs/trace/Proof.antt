@@ -1,42 +1,51 @@
 -- `recursion::trace` meets its contract: the search enters the outlet.
 -- Assumes nothing.
-use Rattle.recursion.proofs.Cell.{has-place, has-room, inflows-ready, cell-traced, outlet-ready, searched}
 use borrow.Author.Needs.{needs}
+use Rattle.recursion.specs.Tracing.{CellReady}
+use Rattle.recursion.proofs.Cell.{has-place, has-room, inflows-ready, cell-traced, outlet-ready, traced}
 use Rattle.recursion.proofs.trace.Statement.{statement}
 use Rattle.recursion.proofs.trace.Tie as tie
+
+none-requires : tie.Need-none-requires
+none-requires c κs = search needs
 
 begin-requires : tie.Need-begin-requires
 begin-requires c κs = search needs
 
+-- the function's start, seen from where nothing is visited yet, and that the outlet may be entered
+abbrev start : tie.After-begin → tie.Start
+start b = b .before .before .before .before .before
+
+cell : (b : tie.After-begin) → let a = start b .args in
+    CellReady (a .rows) (a .cols) (a .codes .now) (a .outlets .now) (a .row) (a .col) (b .before .none .result)
+    (b .begin .result) (a .found .now)
+cell b =
+    let s = start b in
+    outlet-ready (s .pre .0) (s .pre .1 .0) (b .begin .ensures) (b .before .none .ensures) (s .args .found .now)
+    (s .pre .1 .1 .0) (s .pre .1 .1 .1)
+
 visit-at-requires : tie.Need-visit-at-requires
 visit-at-requires c κs =
     let b = c .before in
-    let s = b .before .before .before .before in
-    let cell = outlet-ready (s .pre .0) (s .pre .1 .0) (b .begin .ensures) (s .args .found .now) (s .pre .1 .1 .0)
-    (s .pre .1 .1 .1) in
-    (has-place (s .pre .0) cell, has-room (s .pre .0) cell)
+    (has-place (start b .pre .0) (cell b), has-room (start b .pre .0) (cell b))
 
 trace-inflows-requires : tie.Need-trace-inflows-requires
 trace-inflows-requires c κs =
     let b = c .before .before .before in
-    let s = b .before .before .before .before in
-    let cell = outlet-ready (s .pre .0) (s .pre .1 .0) (b .begin .ensures) (s .args .found .now) (s .pre .1 .1 .0)
-    (s .pre .1 .1 .1) in
-    (s .pre .0, inflows-ready (s .pre .0) cell (c .before .visit-at .ensures))
+    (start b .pre .0, inflows-ready (start b .pre .0) (cell b) (c .before .visit-at .ensures))
 
 returns : tie.Need-returns
 returns c =
     let b = c .before .before .before .before in
-    let s = b .before .before .before .before in
+    let s = start b in
     let i = c .trace-inflows in
-    let cell = outlet-ready (s .pre .0) (s .pre .1 .0) (b .begin .ensures) (s .args .found .now) (s .pre .1 .1 .0)
-    (s .pre .1 .1 .1) in
-    let all = cell-traced (s .pre .0) cell (c .before .before .visit-at .ensures) (s .args .dropping) (i .result)
-    (i .last .1 .1 .1 .1 .1 .1 .1 .1 .1 .1 .1 .0) (i .ensures) in (
-      searched (s .pre .0) (s .pre .1 .0) (b .begin .ensures) (s .args .dropping) (s .args .found .now) (i .result)
-          (i .last .1 .1 .1 .1 .1 .1 .1 .1 .1 .1 .1 .0) all,
-      all .room,
-    )
+    let new = i .last .1 .1 .1 .1 .1 .1 .1 .1 .1 .1 .1 .0 in
+    traced (s .pre .0) (s .pre .1 .0) (b .begin .ensures) (b .before .none .ensures) (s .args .dropping)
+    (s .args .found .now) (i .result) new
+    (cell-traced (s .pre .0) (cell b) (c .before .before .visit-at .ensures) (s .args .dropping) (i .result) new
+    (i .ensures))
 
 pub trace-spec : {M : Type 1} → statement M
-trace-spec = tie.close (tie.spec begin-requires visit-at-requires trace-inflows-requires returns)
+trace-spec =
+    tie.close
+    (tie.spec none-requires begin-requires visit-at-requires trace-inflows-requires returns)

@@ -5,6 +5,7 @@ use Prim.Native.Nat.{ℕ, _-_, _≤_}
 use native.Mathlib.Omega.{arith}
 use lib.ListN.{length}
 use borrow.Author.Needs.{needs}
+use Rattle.answers.specs.Entries.{Catchment, catchment}
 use Rattle.report.specs.Desk.{firstNumber, numbersFrom}
 use Rattle.report.proofs.Refusals.{refuses-at, passes-at, none-left}
 use Rattle.report.proofs.first_refusal.Statement.{statement}
@@ -13,20 +14,26 @@ use Rattle.report.proofs.first_refusal.Tie as tie
 abbrev Inv-loop : tie.InvT-loop
 Inv-loop rows cols codes accumulation outlets place₀ place =
     (place ≤ length outlets)
-    × (firstNumber (numbersFrom rows cols codes accumulation outlets place (length outlets - place))
-    ≡ firstNumber (numbersFrom rows cols codes accumulation outlets 0 (length outlets)))
+    × (firstNumber (numbersFrom (catchment rows cols codes accumulation outlets) place (length outlets - place))
+    ≡ firstNumber (numbersFrom (catchment rows cols codes accumulation outlets) 0 (length outlets)))
 
 abbrev μ-loop : tie.MeasureT-loop
 μ-loop rows cols codes accumulation outlets place₀ place = length outlets - place
 
+abbrev asked : tie.Start Inv-loop μ-loop → Catchment
+asked s = let a = s .args in
+    catchment (a .rows) (a .cols) (a .codes .now) (a .accumulation .now) (a .outlets .now)
+
+-- the function's start, seen from the loop
+abbrev start-of : tie.At-loop Inv-loop μ-loop → tie.Start Inv-loop μ-loop
+start-of l = l .before .before .before .before
+
 loop-holds : tie.Need-loop-holds Inv-loop μ-loop
 loop-holds c =
-    let a = c .before .before .before .args in
-    let e : length (a .outlets .now) - 0 ≡ length (a .outlets .now) = omega arith in (
-      omega arith,
-      ap (λ (n : ℕ). firstNumber (numbersFrom (a .rows) (a .cols) (a .codes .now) (a .accumulation .now)
-          (a .outlets .now) 0 n)) e,
-    )
+    let s = c .before .before .before in
+    let count = length (s .args .outlets .now) in
+    let e : count - 0 ≡ count = omega arith in
+    (omega arith, ap (λ (n : ℕ). firstNumber (numbersFrom (asked s) 0 n)) e)
 
 number-at-requires : tie.Need-number-at-requires Inv-loop μ-loop
 number-at-requires c κs = search needs
@@ -34,10 +41,11 @@ number-at-requires c κs = search needs
 returns : tie.Need-returns Inv-loop μ-loop
 returns c =
     let n = c .before in
-    let l = n .before .before in
-    let a = l .before .before .before .before .args in
-    refuses-at (a .rows) (a .cols) (a .codes .now) (a .accumulation .now) (a .outlets .now) (l .loop .place)
-    (length (a .outlets .now)) (n .before .loop-test .taken) (n .number-at .ensures) (c .if1 .taken) ∙ l .loop .inv .1
+    let i = n .before in
+    let l = i .before in
+    let s = start-of l in
+    refuses-at (asked s) (l .loop .place) (length (s .args .outlets .now)) (i .loop-test .taken)
+    (n .number-at .ensures) (c .if1 .taken) ∙ l .loop .inv .1
 
 add-place : tie.Need-add-place Inv-loop μ-loop
 add-place c = search needs
@@ -48,22 +56,21 @@ loop-less c = search needs
 loop-again : tie.Need-loop-again Inv-loop μ-loop
 loop-again c =
     let n = c .before in
-    let l = n .before .before in
-    let a = l .before .before .before .before .args in (
-      omega (arith, n .before .loop-test .taken),
-      passes-at (a .rows) (a .cols) (a .codes .now) (a .accumulation .now) (a .outlets .now) (l .loop .place)
-          (length (a .outlets .now)) (n .before .loop-test .taken) (sym (n .number-at .ensures) ∙ c .if1 .left)
-          ∙ l .loop .inv .1,
+    let i = n .before in
+    let l = i .before in
+    let s = start-of l in (
+      omega (arith, i .loop-test .taken),
+      passes-at (asked s) (l .loop .place) (length (s .args .outlets .now)) (i .loop-test .taken)
+          (n .number-at .ensures) (c .if1 .left) ∙ l .loop .inv .1,
     )
 
 returns-2 : tie.Need-returns-2 Inv-loop μ-loop
 returns-2 c =
     let l = c .before in
-    let a = l .before .before .before .before .args in
-    let e : length (a .outlets .now) - l .loop .place ≡ 0 = omega (arith, c .loop-test .left) in
-    sym (none-left (a .rows) (a .cols) (a .codes .now) (a .accumulation .now) (a .outlets .now) (l .loop .place))
-    ∙ sym (ap (λ (n : ℕ). firstNumber (numbersFrom (a .rows) (a .cols) (a .codes .now) (a .accumulation .now)
-    (a .outlets .now) (l .loop .place) n)) e) ∙ l .loop .inv .1
+    let s = start-of l in
+    let e : length (s .args .outlets .now) - l .loop .place ≡ 0 = omega (arith, c .loop-test .left) in
+    sym (none-left (asked s) (l .loop .place))
+    ∙ sym (ap (λ (n : ℕ). firstNumber (numbersFrom (asked s) (l .loop .place) n)) e) ∙ l .loop .inv .1
 
 pub first-refusal-spec : {M : Type 1} → statement M
 first-refusal-spec =

@@ -1,10 +1,9 @@
 -- `report::number_at` meets its contract.
 -- Assumes nothing.
-use mathlib.Core.Path.{ap, _∙_}
-use Rattle.answers.specs.declared.Traced.{Traced}
-use Rattle.answers.specs.Tracings.{numberOf}
-use Rattle.report.specs.Desk.{numberAt, tracedAt}
+use mathlib.Core.Path.{_∙_}
 use borrow.Author.Needs.{needs}
+use Rattle.answers.specs.Entries.{catchment}
+use Rattle.report.proofs.Outlets.{number-is}
 use Rattle.report.proofs.number_at.Statement.{statement}
 use Rattle.report.proofs.number_at.Tie as tie
 
@@ -24,10 +23,12 @@ number-of-requires : tie.Need-number-of-requires
 number-of-requires c κs = search needs
 
 returns : tie.Need-returns
-unfolding numberAt tracedAt
 returns c =
+    let t = c .before .before .before .before in
+    let a = t .before .before .before .before .before .before .before .args in
     c .number-of .ensures
-    ∙ ap (λ (t : Traced). numberOf (t .answer)) (c .before .before .before .before .trace-by-stack .ensures .0)
+    ∙ number-is (catchment (a .rows) (a .cols) (a .codes .now) (a .accumulation .now) (a .outlets .now)) (a .place)
+    (t .trace-by-stack .ensures .traces .answers)
 
 pub number-at-spec : {M : Type 1} → statement M
 number-at-spec =

@@ -2,7 +2,7 @@
 -- Assumes nothing.
 use mathlib.Core.Path.{_≡_, refl, sym, ap, _∙_}
 use mathlib.Core.List.{List}
-use Prim.Native.Nat.{ℕ, _+_, _-_, _≤_}
+use Prim.Native.Nat.{ℕ, _-_, _≤_}
 use native.Mathlib.Omega.{arith}
 use lib.ListN.{length, take}
 use lib.Seq.{take-all}
@@ -15,28 +15,34 @@ use Rattle.report.proofs.put_starts.Statement.{statement}
 use Rattle.report.proofs.put_starts.Tie as tie
 
 abbrev Inv-loop : tie.InvT-loop
-Inv-loop text₀ at cols list to₀ k₀ text to k =
-    (k ≤ length list) × Appends (pathLines cols (take k list)) at text₀ to text × (length text ≡ length text₀)
+Inv-loop text₀ at cols starts to₀ k₀ text to k =
+    (k ≤ length starts) × Appends (pathLines cols (take k starts)) at text₀ to text × (length text ≡ length text₀)
 
 abbrev μ-loop : tie.MeasureT-loop
-μ-loop text₀ at cols list to₀ k₀ text to k = length list - k
+μ-loop text₀ at cols starts to₀ k₀ text to k = length starts - k
 
 loop-holds : tie.Need-loop-holds Inv-loop μ-loop
 loop-holds c =
     let a = c .before .before .args in (
       omega arith,
-      appends-as (sym (no-starts (a .cols) (a .list .now))) (appends-none (a .at) (a .text .now)),
+      appends-as (sym (no-starts (a .cols) (a .starts .now))) (appends-none (a .at) (a .text .now)),
       refl,
     )
 
-mul-put-start : tie.Need-mul-put-start Inv-loop μ-loop
-mul-put-start c = search needs
+mul-start : tie.Need-mul-start Inv-loop μ-loop
+mul-start c = search needs
 
-shared-slice-read-put-start : tie.Need-shared-slice-read-put-start Inv-loop μ-loop
-shared-slice-read-put-start c = search needs
+shared-slice-read-start : tie.Need-shared-slice-read-start Inv-loop μ-loop
+shared-slice-read-start c = search needs
 
-put-start-requires : tie.Need-put-start-requires Inv-loop μ-loop
-put-start-requires c κs = c .before .before .before .before .before .before .pre
+div-put-path : tie.Need-div-put-path Inv-loop μ-loop
+div-put-path c = search needs
+
+rem-put-path : tie.Need-rem-put-path Inv-loop μ-loop
+rem-put-path c = search needs
+
+put-path-requires : tie.Need-put-path-requires Inv-loop μ-loop
+put-path-requires c κs = search needs
 
 add-k : tie.Need-add-k Inv-loop μ-loop
 add-k c = search needs
@@ -51,9 +57,9 @@ loop-again c =
     let l = i .before .loop in
     let a = i .before .before .before .before .args in (
       omega (arith, i .loop-test .taken),
-      appends-as (one-more (a .cols) (a .list .now) (l .k) (i .loop-test .taken))
-          (appends-both (l .inv .1) (p .put-start .ensures)),
-      p .put-start .kept .0 ∙ l .inv .2,
+      appends-as (one-more (a .cols) (a .starts .now) (l .k) (omega (arith, i .loop-test .taken)))
+          (appends-both (l .inv .1) (p .put-path .ensures)),
+      p .put-path .kept .0 ∙ l .inv .2,
     )
 
 same-length : tie.Need-same-length Inv-loop μ-loop
@@ -63,7 +69,7 @@ returns : tie.Need-returns Inv-loop μ-loop
 returns c =
     let l = c .before .loop in
     let a = c .before .before .before .before .args in
-    appends-as (ap (λ (s : List ℕ). pathLines (a .cols) s) (take-all (l .k) (a .list .now)
+    appends-as (ap (λ (s : List ℕ). pathLines (a .cols) s) (take-all (l .k) (a .starts .now)
     (omega (arith, c .loop-test .left)))) (l .inv .1)
 
 pub put-starts-spec : {M : Type 1} → statement M
@@ -73,9 +79,11 @@ put-starts-spec =
     Inv-loop
     μ-loop
     loop-holds
-    mul-put-start
-    shared-slice-read-put-start
-    put-start-requires
+    mul-start
+    shared-slice-read-start
+    div-put-path
+    rem-put-path
+    put-path-requires
     add-k
     loop-less
     loop-again

@@ -5,7 +5,7 @@ use mathlib.Core.List.{[]}
 use Prim.Native.Nat.{ℕ, _+_, _-_, _*_}
 use native.Mathlib.Omega.{arith}
 use lib.ListN.{length}
-use Rattle.ground.specs.Lists.{sumOf}
+use Rattle.lists.specs.Lists.{sumOf}
 use Rattle.ground.specs.Compass.{dirs}
 use Rattle.ground.specs.Grid.{gridOf}
 use Rattle.stack.specs.Pending.{inflowsAbove, PutOn}
@@ -31,8 +31,8 @@ alike : (c : tie.Then3)
 alike c =
     let s = start-sum c in
     no-outlet (s .pre .0) (s .pre .1 .0) (s .args .len)
-    (sym (ap sumOf (c .before .before .before .inflows-of .ensures)) ∙ sym (c .before .before .sum .ensures)
-    ∙ c .if3 .taken ∙ c .before .wide .ensures .0 ∙ ap (λ (m : ℕ). m - 1) (s .pre .1 .1 .0))
+    (c .before .before .before .inflows-of .ensures) (s .pre .1 .1 .0)
+    (omega (arith, c .before .before .sum .ensures, c .if3 .taken, c .before .wide .ensures .0))
 
 returns : tie.Need-returns
 returns c =
@@ -92,7 +92,8 @@ returns-3 c =
     let t = c .before .before .before .before in
     let a = start-sum t .args in
     let r = c .before .before .put-inflows2 in
-    subst (λ ws. PutOn ws (a .top) (a .work .now) (r .result) (r .last .1 .1 .1 .1 .1 .1 .1 .1 .0)) (alike t) (r .ensures)
+    subst (λ ws. PutOn ws (a .top) (a .work .now) (r .result) (r .last .1 .1 .1 .1 .1 .1 .1 .1 .0)) (alike t)
+    (r .ensures)
 
 put-inflows-requires-3 : tie.Need-put-inflows-requires-3
 put-inflows-requires-3 c κs =

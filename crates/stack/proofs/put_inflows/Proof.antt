@@ -7,7 +7,7 @@ use lib.ListN.{length, drop}
 use borrow.Author.Needs.{needs}
 use Rattle.ground.specs.Compass.{dirs}
 use Rattle.ground.specs.Grid.{gridOf}
-use Rattle.ground.specs.Moves.{spotCell}
+use Rattle.upstream.proofs.Turning.{nothing-there, found-there}
 use Rattle.stack.specs.Pending.{inflowsAbove, PutOn}
 use Rattle.stack.proofs.Putting.{put-none, passed, room-left, joined}
 use Rattle.stack.proofs.put_inflows.Statement.{statement}
@@ -29,8 +29,8 @@ loop-holds c = let a = c .before .before .before .args in (omega arith, refl, pu
 sub-left : tie.Need-sub-left Inv-loop μ-loop
 sub-left c = search needs
 
-inflow-from-requires : tie.Need-inflow-from-requires Inv-loop μ-loop
-inflow-from-requires c κs = c .before .before .before .before .before .pre .0
+tributary-from-requires : tie.Need-tributary-from-requires Inv-loop μ-loop
+tributary-from-requires c κs = c .before .before .before .before .before .pre .0
 
 enum-known-r : tie.Need-enum-known-r Inv-loop μ-loop
 enum-known-r c = search needs
@@ -40,13 +40,13 @@ put-requires c κs =
     let s = c .before .before .before .before .before .before .before .before .before .before in
     let a = s .args in
     let l = c .before .before .before .before .before .before .loop in
-    let f = c .before .before .before .before .inflow-from .ensures in
+    let f = c .before .before .before .before .tributary-from .ensures in
     let t = c .before .before .r .given in (
       room-left (gridOf (a .rows) (a .cols) (a .codes .now)) (a .outlets .now) (a .row * a .cols + a .col) (a .len)
           (l .left) (omega arith) (l .inv .0) (l .inv .2) (t .0 .0) (t .0 .1 .0)
-          (sym (f .is-cell) ∙ ap (spotCell (a .cols)) (t .1)) (length (l .work)) (omega (arith, s .pre .1, l .inv .1)),
-      omega (arith, f .row-in (t .0 .0) (t .0 .1 .0) (t .1), s .pre .0 .rows-small),
-      omega (arith, f .col-in (t .0 .0) (t .0 .1 .0) (t .1), s .pre .0 .cols-small),
+          (found-there f (t .1)) (length (l .work)) (omega (arith, s .pre .1, l .inv .1)),
+      omega (arith, f .row-in (t .0 .0) (t .0 .1 .0) (t .1), s .pre .0 .grid .sides .rows-small),
+      omega (arith, f .col-in (t .0 .0) (t .0 .1 .0) (t .1), s .pre .0 .grid .sides .cols-small),
     )
 
 loop-less : tie.Need-loop-less Inv-loop μ-loop
@@ -57,14 +57,14 @@ loop-again c =
     let a = c .before .before .before .before .before .before .before .before .before .before .before .before .before
     .args in
     let l = c .before .before .before .before .before .before .before .before .before .loop in
-    let f = c .before .before .before .before .before .before .before .inflow-from .ensures in
+    let f = c .before .before .before .before .before .before .before .tributary-from .ensures in
     let t = c .before .before .before .before .before .r .given in
     let p = c .before .before .put in (
       omega arith,
       p .kept .0 ∙ l .inv .1,
       joined (gridOf (a .rows) (a .cols) (a .codes .now)) (a .outlets .now) (a .row * a .cols + a .col) (a .len)
           (l .left) (omega arith) (l .inv .0) (l .inv .2) (t .0 .0) (t .0 .1 .0)
-          (sym (f .is-cell) ∙ ap (spotCell (a .cols)) (t .1)) (f .col-in (t .0 .0) (t .0 .1 .0) (t .1))
+          (found-there f (t .1)) (f .col-in (t .0 .0) (t .0 .1 .0) (t .1))
           (p .ensures),
     )
 
@@ -78,12 +78,12 @@ loop-again-2 : tie.Need-loop-again-2 Inv-loop μ-loop
 loop-again-2 c =
     let a = c .before .before .before .before .before .before .before .before .args in
     let l = c .before .before .before .before .loop in
-    let f = c .before .before .inflow-from .ensures in (
+    let f = c .before .before .tributary-from .ensures in (
       omega arith,
       l .inv .1,
       passed (gridOf (a .rows) (a .cols) (a .codes .now)) (a .outlets .now) (a .row * a .cols + a .col) (a .len)
           (l .left) (omega arith) (l .inv .0) (l .inv .2)
-          (sym (f .is-cell) ∙ ap (spotCell (a .cols)) (c .enum-told .given .1)),
+          (nothing-there f (c .enum-told .given .1)),
     )
 
 same-length : tie.Need-same-length Inv-loop μ-loop
@@ -105,7 +105,7 @@ put-inflows-spec =
     μ-loop
     loop-holds
     sub-left
-    inflow-from-requires
+    tributary-from-requires
     enum-known-r
     put-requires
     loop-less

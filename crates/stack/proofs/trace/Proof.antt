@@ -11,12 +11,12 @@ use Rattle.progress.specs.Starts.{stateOf}
 use Rattle.stack.specs.Pending.{pending}
 use Rattle.stack.specs.Draining.{cellsPending, Standing, drain}
 use Rattle.stack.proofs.Climbing.{indexed, read, small-cells}
-use Rattle.stack.proofs.Turning.{outlet-fits, outlet-stands, outlet-drains, traced}
+use Rattle.stack.proofs.Turning.{drains-on, outlet-fits, outlet-stands, outlet-drains, traced}
 use Rattle.stack.proofs.trace.Statement.{statement}
 use Rattle.stack.proofs.trace.Tie as tie
 
 abbrev Inv-loop : tie.InvT-loop
-Inv-loop rows cols codes outlets subs dropping row col work₀ end s₀ work s =
+Inv-loop rows cols codes outlets subaccumulation dropping row col work₀ end s₀ work s =
     (length work ≡ length work₀)
     × Standing (gridOf rows cols codes) outlets end s work
     × (drain (gridOf rows cols codes) outlets dropping (pending work (s .top)) (stateOf (s .progress) work end)
@@ -24,7 +24,7 @@ Inv-loop rows cols codes outlets subs dropping row col work₀ end s₀ work s =
     × ((i : ℕ) → end ≤ i → getD work i 0 ≡ getD work₀ i 0)
 
 abbrev μ-loop : tie.MeasureT-loop
-μ-loop rows cols codes outlets subs dropping row col work₀ end s₀ work s =
+μ-loop rows cols codes outlets subaccumulation dropping row col work₀ end s₀ work s =
     cellsPending (gridOf rows cols codes) outlets (pending work (s .top))
 
 -- three numbers for each cell
@@ -58,12 +58,15 @@ index-of-requires c κs = search needs
 mul-end : tie.Need-mul-end Inv-loop μ-loop
 mul-end c = omega (arith, end-is c, small-cells (start c .pre .0) (start c .pre .1 .0))
 
+none-requires : tie.Need-none-requires Inv-loop μ-loop
+none-requires c κs = search needs
+
 begin-requires : tie.Need-begin-requires Inv-loop μ-loop
 begin-requires c κs = search needs
 
 enter-outlet-requires : tie.Need-enter-outlet-requires Inv-loop μ-loop
 enter-outlet-requires c κs =
-    let i = c .before .before in
+    let i = c .before .before .before in
     let s = start i in (
       s .pre .0,
       (
@@ -75,11 +78,12 @@ enter-outlet-requires c κs =
 
 loop-holds : tie.Need-loop-holds Inv-loop μ-loop
 loop-holds c =
-    let i = c .before .before .before .before .before in
+    let i = c .before .before .before .before .before .before in
     let s = start i in
     let e = c .before .before .enter-outlet in (
       refl,
-      outlet-stands (s .pre .0) (s .pre .1 .0) (end-is i) (c .before .before .before .before .begin .ensures) (e .ensures)
+      outlet-stands (s .pre .0) (s .pre .1 .0) (end-is i) (c .before .before .before .before .begin .ensures)
+          (c .before .before .before .before .before .none .ensures) (e .ensures)
           (omega (arith, end-is i, s .pre .1 .1, e .kept .1 .1 .1 .1 .1 .1 .1 .1 .1 .1 .1 .0)),
       refl,
       λ k h. refl,
@@ -88,7 +92,7 @@ loop-holds c =
 turn-requires : tie.Need-turn-requires Inv-loop μ-loop
 turn-requires c κs = (
   c .before .before .before .before .before .before .before .before .before .before .before
-      .before .before .before .before .pre .0,
+      .before .before .before .before .before .pre .0,
   (c .before .before .before .loop .inv .1, c .before .if1 .taken),
 )
 
@@ -101,7 +105,7 @@ loop-again c =
     let t = c .before .before .turn in (
       t .kept .1 .1 .1 .1 .1 .1 .1 .1 .0 ∙ l .inv .0,
       t .ensures .standing,
-      t .ensures .drains ∙ l .inv .2,
+      drains-on (t .ensures) (l .inv .2),
       λ i h. t .ensures .beyond i h ∙ l .inv .3 i h,
     )
 
@@ -113,11 +117,12 @@ returns : tie.Need-returns Inv-loop μ-loop
 returns c =
     let l = c .before .before .before .loop in
     let e = c .before .before .before .before .before .before .enter-outlet in
-    let i = c .before .before .before .before .before .before .before .before .before in
+    let i = c .before .before .before .before .before .before .before .before .before .before in
     let s = start i in
     traced (s .pre .0) (s .pre .1 .0) (end-is i) (s .args .dropping) (s .args .work .now) (l .inv .1) (omega arith)
     (l .inv .2 ∙ outlet-drains (s .pre .0) (s .pre .1 .0) (end-is i)
-    (c .before .before .before .before .before .before .before .before .begin .ensures) (e .ensures)
+    (c .before .before .before .before .before .before .before .before .begin .ensures)
+    (c .before .before .before .before .before .before .before .before .before .none .ensures) (e .ensures)
     (s .args .dropping)) (λ k h. l .inv .3 k h ∙ e .ensures .beyond k h)
 
 pub trace-spec : {M : Type 1} → statement M
@@ -132,6 +137,7 @@ trace-spec =
     shared-slice-read-index-of
     index-of-requires
     mul-end
+    none-requires
     begin-requires
     enter-outlet-requires
     loop-holds

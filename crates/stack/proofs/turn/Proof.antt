@@ -5,7 +5,8 @@ use native.Mathlib.Omega.{arith}
 use Rattle.lengths.specs.Rule.{plusStep}
 use Rattle.upstream.specs.Ready.{OnGround}
 use Rattle.stack.proofs.Climbing.{indexed, read, small-cells}
-use Rattle.stack.proofs.Turning.{places, on-ground, small-length, few-dropped, fits, turn-dropped, turn-entered}
+use Rattle.stack.proofs.Turning.{pending-room, on-ground, small-length, few-dropped, fits, turn-dropped}
+use Rattle.stack.proofs.Turning.{turn-entered}
 use borrow.Author.Needs.{needs}
 use Rattle.stack.proofs.turn.Statement.{statement}
 use Rattle.stack.proofs.turn.Tie as tie
@@ -14,7 +15,8 @@ use Rattle.stack.proofs.turn.Tie as tie
 abbrev start : tie.After-pending-at → tie.Start
 start c = c .before .before .before .before .before .before .before .before
 
-ground-there : (c : tie.After-pending-at) → OnGround (start c .args .rows) (start c .args .cols) (start c .args .codes .now)
+ground-there : (c : tie.After-pending-at) → OnGround (start c .args .rows) (start c .args .cols)
+    (start c .args .codes .now)
     (c .pending-at .result .row) (c .pending-at .result .col)
 ground-there c =
     let s = start c in
@@ -29,7 +31,7 @@ pending-at-requires c κs =
     let s = c .before .before .before .before .before .before .before in
     omega (
       arith,
-      places (s .pre .0) (s .pre .1 .0) (s .pre .1 .1),
+      pending-room (s .pre .0) (s .pre .1 .0) (s .pre .1 .1),
       s .pre .1 .0 .within,
       s .pre .1 .1,
     )
@@ -54,17 +56,20 @@ shared-slice-read-n c =
     let d = c .before .before in
     omega (arith, indexed (start d .pre .0) (ground-there d))
 
-is-dropped-requires : tie.Need-is-dropped-requires
-is-dropped-requires c κs =
+farthest-requires : tie.Need-farthest-requires
+farthest-requires c κs =
     let d = c .before .before in
     let s = start d in
     let l = small-length (s .pre .0) (s .pre .1 .0) (s .pre .1 .1)
     (d .pending-at .ensures) in
     (omega arith, omega (arith, read (s .pre .0) (ground-there d), small-cells (s .pre .0) (ground-there d)))
 
+is-dropped-requires : tie.Need-is-dropped-requires
+is-dropped-requires c κs = search needs
+
 drop-cells-requires : tie.Need-drop-cells-requires
 drop-cells-requires c κs =
-    let d = c .before .before .before .before in
+    let d = c .before .before .before .before .before in
     let s = start d in
     omega (
       arith,
@@ -78,15 +83,16 @@ same-length c = search needs
 
 returns : tie.Need-returns
 returns c =
-    let d = c .before .before .before .before .before in
+    let d = c .before .before .before .before .before .before in
     let s = start d in
     turn-dropped (s .pre .0) (s .pre .1 .0) (s .pre .1 .1)
     (d .pending-at .ensures)
-    (s .args .dropping) (read (s .pre .0) (ground-there d)) (c .before .before .is-dropped .ensures)
+    (s .args .dropping) (read (s .pre .0) (ground-there d)) (c .before .before .before .farthest .ensures)
+    (c .before .before .is-dropped .ensures)
     (c .before .if1 .taken) (c .drop-cells .ensures)
 
 shared-slice-read-step-of : tie.Need-shared-slice-read-step-of
-shared-slice-read-step-of c = let d = c .before .before .before .before .before in
+shared-slice-read-step-of c = let d = c .before .before .before .before .before .before in
     omega (arith, indexed (start d .pre .0) (ground-there d))
 
 step-of-requires : tie.Need-step-of-requires
@@ -94,7 +100,7 @@ step-of-requires c κs = search needs
 
 plus-requires : tie.Need-plus-requires
 plus-requires c κs =
-    let d = c .before .before .before .before .before .before in
+    let d = c .before .before .before .before .before .before .before in
     let s = start d in
     let l = small-length (s .pre .0) (s .pre .1 .0) (s .pre .1 .1)
     (d .pending-at .ensures) in
@@ -102,7 +108,7 @@ plus-requires c κs =
 
 enter-cell-requires : tie.Need-enter-cell-requires
 enter-cell-requires c κs =
-    let d = c .before .before .before .before .before .before .before .before in
+    let d = c .before .before .before .before .before .before .before .before .before in
     let s = start d in (
       s .pre .0,
       (
@@ -117,12 +123,13 @@ same-length-2 c = search needs
 
 returns-2 : tie.Need-returns-2
 returns-2 c =
-    let d = c .before .before .before .before .before .before .before .before .before .before .before in
+    let d = c .before .before .before .before .before .before .before .before .before .before .before .before in
     let s = start d in
     let e = c .before .before .enter-cell in
     turn-entered (s .pre .0) (s .pre .1 .0) (s .pre .1 .1)
     (d .pending-at .ensures)
     (s .args .dropping) (read (s .pre .0) (ground-there d))
+    (c .before .before .before .before .before .before .before .before .before .farthest .ensures)
     (c .before .before .before .before .before .before .before .before .is-dropped .ensures)
     (c .before .before .before .before .before .before .before .if1 .left)
     (c .before .before .before .before .plus .ensures
@@ -139,6 +146,7 @@ turn-spec =
     add-at
     mul-n
     shared-slice-read-n
+    farthest-requires
     is-dropped-requires
     drop-cells-requires
     same-length

@@ -1,19 +1,24 @@
 -- `tracing::trace_by_stack` meets its contract.
 -- Assumes nothing.
-use mathlib.Core.Path.{_≡_, sym, _∙_, subst}
-use mathlib.Core.List.{List}
-use Prim.Native.Nat.{ℕ}
 use native.Mathlib.Omega.{arith}
 use borrow.Author.Needs.{needs}
-use Rattle.ground.specs.Grid.{gridOf}
-use Rattle.ground.specs.Accumulation.{subaccumulations}
-use Rattle.answers.specs.declared.Traced.{Traced}
-use Rattle.answers.specs.Entries.{overlaid}
-use Rattle.tracing.specs.Telling.{refusedWith}
-use Rattle.tracing.proofs.Filled.{chosen, ready}
-use Rattle.tracing.proofs.Stack.{Promised, refused-first, refused-20, told-by}
+use Rattle.answers.specs.Tracings.{Call, callOf, Lent, lent}
+use Rattle.tracing.proofs.Filled.{prepared-ready, prepared-chosen}
+use Rattle.tracing.proofs.Deciding.{stack-first, stack-20, stack-whole}
 use Rattle.tracing.proofs.trace_by_stack.Statement.{statement}
 use Rattle.tracing.proofs.trace_by_stack.Tie as tie
+
+-- the function's start, seen from after the preparation; the call, and what it is lent
+abbrev start : tie.After-prepare → tie.Start
+start p = p .before .before .before .before .before .before .before .before
+
+abbrev call : tie.After-prepare → Call
+call p =
+    let a = start p .args in
+    callOf (a .rows) (a .cols) (a .codes .now) (a .accumulation .now) (a .outlets .now) (a .place) (a .dropping)
+
+abbrev given : tie.After-prepare → Lent
+given p = lent (start p .args .subaccumulation .now) (start p .args .starts .now)
 
 prepare-requires : tie.Need-prepare-requires
 prepare-requires c κs = search needs
@@ -27,15 +32,8 @@ same-length c = search needs
 returns : tie.Need-returns
 returns c =
     let p = c .before .before .before .before in
-    let a = p .before .before .before .before .before .before .before .before .args in
-    let D = Promised (a .dropping) (a .rows) (a .cols) (a .codes .now) (a .accumulation .now) (a .outlets .now) (a .place)
-    (a .subaccumulation .now) (a .starts .now) (a .work .now) in
-    subst (λ (r : Traced). D r (p .prepare .last .1 .1 .1 .1 .1 .1 .0) (a .starts .now) (a .work .now))
-    (sym (c .refused .ensures))
-    (subst (λ (l : List ℕ). D (refusedWith (p .prepare .result .number)) l (a .starts .now) (a .work .now))
-    (sym (p .prepare .ensures .refused (c .before .if1 .taken)))
-    (refused-first (a .dropping) (a .rows) (a .cols) (a .codes .now) (a .accumulation .now) (a .outlets .now) (a .place)
-    (a .subaccumulation .now) (a .starts .now) (a .work .now) (p .prepare .ensures .is-number) (c .before .if1 .taken)))
+    stack-first (call p) (given p) (start p .args .work .now) (p .prepare .ensures) (c .before .if1 .taken)
+    (c .refused .ensures)
 
 index-of-requires : tie.Need-index-of-requires
 index-of-requires c κs = search needs
@@ -54,21 +52,8 @@ returns-2 c =
     let i = c .before .before in
     let e = i .before in
     let p = e .before .before .before in
-    let a = p .before .before .before .before .before .before .before .before .args in
-    let D = Promised (a .dropping) (a .rows) (a .cols) (a .codes .now) (a .accumulation .now) (a .outlets .now) (a .place)
-    (a .subaccumulation .now) (a .starts .now) (a .work .now) in
-    subst (λ (r : Traced). D r (p .prepare .last .1 .1 .1 .1 .1 .1 .0) (a .starts .now) (a .work .now))
-    (sym (c .refused2 .ensures))
-    (subst (λ (l : List ℕ). D (refusedWith 20) l (a .starts .now) (a .work .now))
-    (sym (p .prepare .ensures .filled (e .if1 .left)))
-    (refused-20 (a .dropping) (a .rows) (a .cols) (a .codes .now) (a .accumulation .now) (a .outlets .now) (a .place)
-    (a .subaccumulation .now) (a .starts .now) (a .work .now) (sym (p .prepare .ensures .is-number) ∙ e .if1 .left)
-    (omega (
-      arith,
-      c .before .if2 .taken,
-      i .index-of .ensures .0,
-      p .prepare .ensures .counted (e .if1 .left),
-    ))))
+    stack-20 (call p) (given p) (start p .args .work .now) (p .prepare .ensures) (e .if1 .left)
+    (omega (arith, c .before .if2 .taken, i .index-of .ensures .0)) (c .refused2 .ensures)
 
 by-stack-requires : tie.Need-by-stack-requires
 by-stack-requires c κs =
@@ -76,13 +61,10 @@ by-stack-requires c κs =
     let i = l .before in
     let e = i .before in
     let p = e .before .before .before in
-    let a = p .before .before .before .before .before .before .before .before .args in
-    let passes = sym (p .prepare .ensures .is-number) ∙ e .if1 .left in (
-      ready (a .rows) (a .cols) (a .codes .now) (a .accumulation .now) (a .outlets .now) (a .place)
-          (a .subaccumulation .now) passes (p .prepare .ensures .filled (e .if1 .left)),
+    let r = p .prepare .ensures in (
+      prepared-ready {c = call p .catchment} r (e .if1 .left),
       (
-        chosen (a .rows) (a .cols) (a .codes .now) (a .accumulation .now) (a .outlets .now) (a .place)
-            (a .subaccumulation .now) passes,
+        prepared-chosen {c = call p .catchment} r (e .if1 .left),
         omega (arith, l .if2 .left, i .index-of .ensures .0, p .prepare .ensures .counted (e .if1 .left)),
       ),
     )
@@ -103,19 +85,8 @@ returns-3 c =
     let i = l .before in
     let e = i .before in
     let p = e .before .before .before in
-    let a = p .before .before .before .before .before .before .before .before .args in
-    let D = Promised (a .dropping) (a .rows) (a .cols) (a .codes .now) (a .accumulation .now) (a .outlets .now) (a .place)
-    (a .subaccumulation .now) (a .starts .now) (a .work .now) in
-    subst (λ (g : List ℕ). D (b .by-stack .result) g (b .by-stack .last .1 .1 .1 .1 .1 .1 .1 .0)
-    (b .by-stack .last .1 .1 .1 .1 .1 .1 .1 .1 .0)) (sym (p .prepare .ensures .filled (e .if1 .left)))
-    (subst (λ (w : List ℕ). D (b .by-stack .result)
-    (overlaid (subaccumulations (gridOf (a .rows) (a .cols) (a .codes .now)) (a .outlets .now)) (a .subaccumulation .now))
-    (b .by-stack .last .1 .1 .1 .1 .1 .1 .1 .0) w)
-    (sym (b .by-stack .ensures .1 .1))
-    (told-by (a .dropping) (a .rows) (a .cols) (a .codes .now) (a .accumulation .now) (a .outlets .now) (a .place)
-    (a .subaccumulation .now) (a .starts .now) (a .work .now) (sym (p .prepare .ensures .is-number) ∙ e .if1 .left)
-    (omega (arith, l .if2 .left, i .index-of .ensures .0, p .prepare .ensures .counted (e .if1 .left)))
-    (b .by-stack .ensures .0) (b .by-stack .ensures .1 .0)))
+    stack-whole (call p) (given p) (start p .args .work .now) (p .prepare .ensures) (e .if1 .left)
+    (omega (arith, l .if2 .left, i .index-of .ensures .0)) (b .by-stack .ensures)
 
 pub trace-by-stack-spec : {M : Type 1} → statement M
 trace-by-stack-spec =

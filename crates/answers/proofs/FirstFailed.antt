@@ -1,0 +1,89 @@
+-- Laws of a list of checks: what the number of the first that fails tells of those before it.
+-- Assumes nothing.
+use mathlib.Core.Path.{_≡_, refl, sym, _∙_}
+use mathlib.Core.Bool.{Bool, true, false, cond, _&&_}
+use mathlib.Core.Logic.{_⊎_, inl, inr}
+use mathlib.Core.List.{List, [], _∷_, _++_}
+use Prim.Native.Nat.{ℕ, zero, suc, _<_}
+use native.Mathlib.Omega.{arith}
+use lib.ListN.{length, getD}
+use lib.Dec.{leb}
+use borrow.Author.Tests.{leb-true}
+use Rattle.lists.specs.Lists.{Every}
+use Rattle.lists.proofs.Lists.{and-both}
+use Rattle.answers.specs.Checks.{Check, firstFailed, allPass}
+
+-- an element of a list of which all pass
+pub all-at : (f : ℕ → Bool) (xs : List ℕ) → allPass f xs ≡ true → (i : ℕ) → i < length xs → f (getD xs i 0) ≡ true
+all-at f [] h i l = absurd (omega arith)
+all-at f (x ∷ xs) h zero l = and-both (f x) (allPass f xs) h .0
+all-at f (x ∷ xs) h (suc i) l = all-at f xs (and-both (f x) (allPass f xs) h .1) i (omega arith)
+
+-- the checks before the one that gave the number all pass
+pub all-passed : (n : ℕ) (cs ds : List Check) → Every (λ c. c .number ≡ n → ⊥) cs → firstFailed (cs ++ ds) ≡ n
+    → Every (λ c. c .passes ≡ true) cs
+unfolding firstFailed
+all-passed n [] ds k e = tt
+all-passed n (c ∷ cs) ds k e = go (c .passes) refl (all-passed n cs ds (k .1))
+  where
+    go : (b : Bool) → c .passes ≡ b → (firstFailed (cs ++ ds) ≡ n → Every (λ d. d .passes ≡ true) cs)
+        → Every (λ d. d .passes ≡ true) (c ∷ cs)
+    go true p ih = (p, ih (sym (rw p) ∙ e))
+    go false p ih = absurd (k .0 (sym (rw p) ∙ e))
+
+-- a number below 10, or above the last of some checks, is none of theirs
+abbrev pub within : ℕ → Check → Bool
+within last c = leb 10 (c .number) && leb (c .number) last
+
+pub apart : (last n : ℕ) → (n < 10) ⊎ (last < n) → (cs : List Check) → allPass (within last) cs ≡ true
+    → Every (λ c. c .number ≡ n → ⊥) cs
+apart last n i [] h = tt
+apart last n i (c ∷ cs) h =
+    let p = and-both (within last c) (allPass (within last) cs) h in
+    (other i (and-both (leb 10 (c .number)) (leb (c .number) last) (p .0)), apart last n i cs (p .1))
+  where
+    other : (n < 10) ⊎ (last < n) → (leb 10 (c .number) ≡ true) × (leb (c .number) last ≡ true) → c .number ≡ n → ⊥
+    other (inl j) b e = omega (arith, leb-true 10 (c .number) (b .0))
+    other (inr j) b e = omega (arith, leb-true (c .number) last (b .1))
+
+-- the checks before the one that gave the number pass
+pub passed : (last n : ℕ) (cs ds : List Check) → allPass (within last) cs ≡ true → (n < 10) ⊎ (last < n)
+    → firstFailed (cs ++ ds) ≡ n → Every (λ c. c .passes ≡ true) cs
+passed last n cs ds h i e = all-passed n cs ds (apart last n i cs h) e
+
+still-fails : (cs ds : List Check) → (firstFailed cs ≡ 0 → ⊥) → firstFailed cs ≡ firstFailed (cs ++ ds)
+unfolding firstFailed
+still-fails [] ds f = absurd (f refl)
+still-fails (c ∷ cs) ds f = go (c .passes) refl (still-fails cs ds)
+  where
+    go : (b : Bool) → c .passes ≡ b → ((firstFailed cs ≡ 0 → ⊥) → firstFailed cs ≡ firstFailed (cs ++ ds))
+        → cond (c .passes) (firstFailed cs) (c .number) ≡ cond (c .passes) (firstFailed (cs ++ ds)) (c .number)
+    go true p ih = rw p (ih (λ e. f (rw p e)))
+    go false p ih = rw p
+
+-- HANDED ON: a number other than 0 is that of any longer list of checks
+pub handed-on : {number : ℕ} (cs ds : List Check) → number ≡ firstFailed cs → (number ≡ 0 → ⊥)
+    → number ≡ firstFailed (cs ++ ds)
+handed-on cs ds is f = is ∙ still-fails cs ds (λ e. f (is ∙ e))
+
+-- checks that give 0 leave it to those that follow
+pub goes-on : (cs ds : List Check) → Every (λ c. c .number ≡ 0 → ⊥) cs → firstFailed cs ≡ 0
+    → firstFailed (cs ++ ds) ≡ firstFailed ds
+unfolding firstFailed
+goes-on [] ds k e = refl
+goes-on (c ∷ cs) ds k e = go (c .passes) refl (goes-on cs ds (k .1))
+  where
+    go : (b : Bool) → c .passes ≡ b → (firstFailed cs ≡ 0 → firstFailed (cs ++ ds) ≡ firstFailed ds)
+        → cond (c .passes) (firstFailed (cs ++ ds)) (c .number) ≡ firstFailed ds
+    go true p ih = rw p (ih (rw p at e))
+    go false p ih = absurd (k .0 (rw p at e))
+
+-- a number that none of them has is not given
+pub never : (n : ℕ) → (n ≡ 0 → ⊥) → (cs : List Check) → Every (λ c. c .number ≡ n → ⊥) cs → firstFailed cs ≡ n → ⊥
+unfolding firstFailed
+never n z [] k e = z (sym e)
+never n z (c ∷ cs) k e = go (c .passes) refl (never n z cs (k .1))
+  where
+    go : (b : Bool) → c .passes ≡ b → (firstFailed cs ≡ n → ⊥) → ⊥
+    go true p ih = ih (rw p at e)
+    go false p ih = k .0 (rw p at e)

@@ -1,0 +1,98 @@
+-- The inflow record by the numbers of the source: its values, and their sum.
+-- Assumes nothing.
+use mathlib.Core.Path.{_≡_, refl, sym, ap, _∙_}
+use mathlib.Core.Bool.{Bool, true, false}
+use mathlib.Core.List.{List, [], _∷_, _++_, map}
+use mathlib.Core.Option.{Option, none, some}
+use Prim.Native.Nat.{ℕ, zero, suc, _+_, _-_, _*_, _≤_, _<_}
+use native.Mathlib.Omega.{arith}
+use native.Mathlib.Numerals.{add-one}
+use lib.ListN.{length, getD, take, set}
+use lib.Seq.{take-suc, getD-set-same, getD-set-other, ext-getD}
+use borrow.Author.Count.{below-more}
+use Rattle.lists.specs.Lists.{sumOf}
+use Rattle.ground.specs.Compass.{Dir, NE, dirs}
+use Rattle.ground.specs.Grid.{Grid, gridOf, neighbour, flowsIn, inflowValue, inflowRecord}
+use Rattle.moves.specs.declared.Neighbour.{Neighbour}
+use Rattle.moves.specs.declared.Spot.{Spot}
+use Rattle.moves.specs.declared.Spot.the-variants.{Off, On}
+use Rattle.moves.specs.Lent.{OnCell}
+use Rattle.moves.specs.Moves.{Spotted, spotCell, dirAt, neighbourOf}
+use Rattle.moves.specs.Walks.{ifFlowsIn, inflowFrom, FlowsFrom}
+use Rattle.moves.proofs.Spots.{on-grid, spot-inside, neighbour-in-reach}
+use Rattle.inflows.specs.Values.{HasCell, Inner, valueAt}
+
+-- one value, by the neighbour that is found
+module _ {rows cols : ℕ} {codes accumulation : List ℕ} {row col : ℕ}
+    (has : HasCell rows cols codes accumulation row col) (k : ℕ) where
+  abbrev land : Grid
+  land = gridOf rows cols codes
+
+  -- what the neighbour has that flows in, and 0 where there is none
+  abbrev valueOf : Option ℕ → ℕ
+  valueOf o = elim o [ none ↦ 0 | some y ↦ getD accumulation y 0 ]
+
+  value-of : (o : Option ℕ) → inflowValue land accumulation (dirAt k) o ≡ valueOf (ifFlowsIn land (dirAt k) o)
+  value-of none = refl
+  value-of (some y) = go (flowsIn land (dirAt k) (some y)) refl
+    where
+      go : (b : Bool) → flowsIn land (dirAt k) (some y) ≡ b
+          → inflowValue land accumulation (dirAt k) (some y) ≡ valueOf (ifFlowsIn land (dirAt k) (some y))
+      go true e = rw e
+      go false e = rw e
+
+  module _ {s : Spot} (p : FlowsFrom rows cols codes row col k s) where
+    value-is : valueAt land accumulation (row * cols + col) k ≡ valueOf (spotCell cols s)
+    unfolding inflowFrom
+    value-is = value-of (neighbour land (row * cols + col) (dirAt k)) ∙ ap valueOf (sym (p .is-cell))
+
+    pub value-off : s ≡ Off → 0 ≡ valueAt (gridOf rows cols codes) accumulation (row * cols + col) k
+    value-off e = sym (value-is ∙ rw e)
+
+    pub value-in : {x y : ℕ} → s ≡ On x y
+        → getD accumulation (x * cols + y) 0 ≡ valueAt (gridOf rows cols codes) accumulation (row * cols + col) k
+    value-in e = sym (value-is ∙ rw e)
+
+-- a neighbour of an inner cell is on the grid
+module _ {rows cols : ℕ} {codes : List ℕ} {row col : ℕ} (on : OnCell rows cols codes row col)
+    (i : Inner rows cols row col) (k : ℕ) {n : Neighbour} (is-n : n ≡ neighbourOf (dirAt k)) where
+  pub inner-spot : Spotted rows cols row col (n .row) (n .col) (On (row + n .row - 1) (col + n .col - 1))
+  inner-spot =
+      let r = neighbour-in-reach on k is-n in
+      on-grid (omega (arith, i .has-above)) (omega (arith, i .has-left))
+      (omega (arith, i .has-below, r .down-small)) (omega (arith, i .has-right, r .right-small))
+
+  pub inner-inside : (row + n .row - 1) * cols + (col + n .col - 1) < rows * cols
+  inner-inside = spot-inside inner-spot refl
+
+-- the record from its values
+getD-map : {A : Type 0} (f : A → ℕ) (l : List A) (i : ℕ) (a : A) → i < length l → getD (map f l) i 0 ≡ f (getD l i a)
+getD-map f [] i a h = absurd (omega arith)
+getD-map f (x ∷ xs) zero a h = refl
+getD-map f (x ∷ xs) (suc i) a h = getD-map f xs i a (omega arith)
+
+pub record-is : (g : Grid) (accumulation : List ℕ) (x : ℕ) (values : List ℕ) → length values ≡ 8
+    → ((j : ℕ) → j < 8 → getD values j 0 ≡ valueAt g accumulation x j) → values ≡ inflowRecord g accumulation x
+unfolding inflowRecord
+record-is g accumulation x values e h = ext-getD 0 values (inflowRecord g accumulation x) e
+    (λ i b. h i (omega arith) ∙ sym (getD-map value dirs i NE (omega arith)))
+  where
+    value : Dir → ℕ
+    value d = inflowValue g accumulation d (neighbour g x d)
+
+-- one value more is stored
+pub stored : (f : ℕ → ℕ) (l : List ℕ) (k v : ℕ) → k < length l → ((j : ℕ) → j < k → getD l j 0 ≡ f j) → v ≡ f k
+    → (j : ℕ) → j < k + 1 → getD (set l k v) j 0 ≡ f j
+stored f l k v inside below e =
+    below-more (λ (j : ℕ). getD (set l k v) j 0 ≡ f j) k
+    (λ j h. getD-set-other l k j v 0 (λ q. omega arith) ∙ below j h) (getD-set-same l k v 0 inside ∙ e)
+
+-- one value more is added
+sum-append : (xs ys : List ℕ) → sumOf (xs ++ ys) ≡ sumOf xs + sumOf ys
+unfolding sumOf
+sum-append [] ys = omega arith
+sum-append (x ∷ xs) ys = omega (arith, sum-append xs ys)
+
+pub sum-take : (l : List ℕ) (k : ℕ) → k < length l → sumOf (take (k + 1) l) ≡ sumOf (take k l) + getD l k 0
+unfolding sumOf
+sum-take l k h = rw (add-one k, take-suc l k 0 h, sum-append (take k l) (getD l k 0 ∷ [])) (omega arith)

@@ -1,0 +1,142 @@
+// The inflow record of a cell: what its neighbours have that flow in.
+use lists::wide;
+use moves::Spot;
+use moves::inflow_from;
+use moves::neighbour_at;
+ghost use mathlib.Core.Path.{_≡_};
+ghost use mathlib.Core.Bool.{true};
+ghost use Prim.Native.Nat.{_*_, _+_, _<_};
+ghost use Rattle.lists.specs.Lists.{sumOf};
+ghost use Rattle.ground.specs.Grid.{gridOf, inflowRecord};
+ghost use Rattle.inflows.specs.Values.{HasCell, Inner, InnerCell, valueAt};
+
+// The accumulations of the neighbours that flow in, in neighbour order; 0 where one does not.
+pub struct Inflows {
+    pub values: [u32; 8],
+}
+
+// What flows in from neighbour k.
+fn inflow_at(
+    rows: usize,
+    cols: usize,
+    codes: &[u8],
+    accumulation: &[u32],
+    row: usize,
+    col: usize,
+    k: usize,
+) -> u32
+    requires { ⌜ HasCell rows cols (now codes) (now accumulation) row col ⌝ }
+    ensures { λ r. ⌜ r
+        ≡ valueAt (gridOf rows cols (now (codes .entry))) (now (accumulation .entry)) (row * cols + col) k ⌝ }
+{
+    match inflow_from(rows, cols, codes, row, col, k) {
+        Spot::Off => 0,
+        Spot::On { row: r, col: c } => {
+            let at = r * cols + c;
+            accumulation[at]
+        }
+    }
+}
+
+// Is it an inner cell, with all eight neighbours on the grid?
+fn is_inner(rows: usize, cols: usize, row: usize, col: usize) -> bool
+    requires { ⌜ (row < rows) × (col < cols) ⌝ }
+    ensures { λ r. ⌜ (r ≡ true → Inner rows cols row col) ⌝ }
+{
+    if row < 1 {
+        return false;
+    }
+    if col < 1 {
+        return false;
+    }
+    if rows <= row + 1 {
+        return false;
+    }
+    col + 1 < cols
+}
+
+// What flows in from neighbour k of an inner cell: no border is tested.
+fn inner_inflow_at(
+    rows: usize,
+    cols: usize,
+    codes: &[u8],
+    accumulation: &[u32],
+    row: usize,
+    col: usize,
+    k: usize,
+) -> u32
+    requires { ⌜ InnerCell rows cols (now codes) (now accumulation) row col ⌝ }
+    ensures { λ r. ⌜ r
+        ≡ valueAt (gridOf rows cols (now (codes .entry))) (now (accumulation .entry)) (row * cols + col) k ⌝ }
+{
+    let n = neighbour_at(k);
+    let at = (row + n.row - 1) * cols + (col + n.col - 1);
+    let back = n.back;
+    if codes[at] != back {
+        return 0;
+    }
+    accumulation[at]
+}
+
+// The inflow record of an inner cell.
+fn inner_inflows(
+    rows: usize,
+    cols: usize,
+    codes: &[u8],
+    accumulation: &[u32],
+    row: usize,
+    col: usize,
+) -> Inflows
+    requires { ⌜ InnerCell rows cols (now codes) (now accumulation) row col ⌝ }
+    ensures { λ r. ⌜ r .values
+        ≡ inflowRecord (gridOf rows cols (now (codes .entry))) (now (accumulation .entry)) (row * cols + col) ⌝ }
+{
+    let mut values = [0u32; 8];
+    let mut j: usize = 0;
+    while j < 8 {
+        values[j] = inner_inflow_at(rows, cols, codes, accumulation, row, col, j);
+        j += 1;
+    }
+    Inflows { values }
+}
+
+// The inflow record of a cell.
+pub fn inflows_of(
+    rows: usize,
+    cols: usize,
+    codes: &[u8],
+    accumulation: &[u32],
+    row: usize,
+    col: usize,
+) -> Inflows
+    requires { ⌜ HasCell rows cols (now codes) (now accumulation) row col ⌝ }
+    ensures { λ r. ⌜ r .values
+        ≡ inflowRecord (gridOf rows cols (now (codes .entry))) (now (accumulation .entry)) (row * cols + col) ⌝ }
+{
+    if is_inner(rows, cols, row, col) {
+        return inner_inflows(rows, cols, codes, accumulation, row, col);
+    }
+    let mut values = [0u32; 8];
+    let mut k: usize = 0;
+    while k < 8 {
+        values[k] = inflow_at(rows, cols, codes, accumulation, row, col, k);
+        k += 1;
+    }
+    Inflows { values }
+}
+
+impl Inflows {
+    // The sum of the record, in 64 bits so that it cannot overflow.
+    pub fn sum(self) -> u64
+        ensures { λ r. ⌜ r ≡ sumOf (self .values) ⌝ }
+    {
+        let values = self.values;
+        let mut total: u64 = 0;
+        let mut i: usize = 0;
+        while i < 8 {
+            total += wide(values[i]);
+            i += 1;
+        }
+        total
+    }
+}

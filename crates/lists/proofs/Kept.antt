@@ -1,0 +1,49 @@
+-- Stores that keep what lies beyond the first places, and places that are cleared.
+-- Assumes nothing.
+use mathlib.Core.Path.{_≡_, refl, sym, _∙_, subst}
+use mathlib.Core.Bool.{Bool, true, false}
+use mathlib.Core.List.{List, [], _∷_}
+use Prim.Native.Nat.{ℕ, zero, suc, _+_, _≤_, _<_}
+use native.Mathlib.Omega.{arith}
+use lib.ListN.{length, getD, set, length-set}
+use lib.Seq.{getD-set-same, getD-set-other}
+use lib.Dec.{eqb}
+use borrow.Author.Tests.{eqb-true, eqb-false}
+use Rattle.lists.specs.Lists.{sumOf}
+use Rattle.lists.specs.Slices.{Kept, Cleared}
+
+pub kept-all : {n : ℕ} {l : List ℕ} → Kept n l l
+kept-all = record { same-length = refl; rest = λ x h. refl }
+
+pub kept-then : {n : ℕ} {l m r : List ℕ} → Kept n l m → Kept n m r → Kept n l r
+kept-then a b = record { same-length = b .same-length ∙ a .same-length; rest = λ x h. b .rest x h ∙ a .rest x h }
+
+pub kept-set : {n : ℕ} {l : List ℕ} (i v : ℕ) → i < n → Kept n l (set l i v)
+kept-set {n} {l} i v h = record {
+  same-length = length-set l i v;
+  rest = λ x k. getD-set-other l i x v 0 (λ q. omega arith);
+}
+
+-- what a store adds to the sum
+pub sum-set : (l : List ℕ) (i v : ℕ) → i < length l → sumOf (set l i v) + getD l i 0 ≡ sumOf l + v
+unfolding sumOf
+sum-set [] i v h = absurd (omega arith)
+sum-set (x ∷ xs) zero v h = omega arith
+sum-set (x ∷ xs) (suc i) v h = omega (arith, sum-set xs i v (omega arith))
+
+pub clear-begin : {n : ℕ} {l : List ℕ} → Cleared n 0 l l
+clear-begin = record { kept = kept-all; are-zero = λ x h. absurd (omega arith) }
+
+pub clear-step : {n i : ℕ} {l m : List ℕ} → i < n → n ≤ length l → Cleared n i l m → Cleared n (i + 1) l (set m i 0)
+clear-step {n} {i} {l} {m} h r c = record {
+  kept = kept-then (c .kept) (kept-set i 0 h);
+  are-zero = λ x k. go x k (eqb x i) refl;
+}
+  where
+    less : (x : ℕ) → x < i + 1 → (x ≡ i → ⊥) → x < i
+    less x k f = omega arith
+
+    go : (x : ℕ) → x < i + 1 → (b : Bool) → eqb x i ≡ b → getD (set m i 0) x 0 ≡ 0
+    go x k true e = subst (λ (y : ℕ). getD (set m i 0) y 0 ≡ 0) (sym (eqb-true x i e))
+        (getD-set-same m i 0 0 (omega (arith, c .kept .same-length)))
+    go x k false e = let f = eqb-false x i e in getD-set-other m i x 0 0 f ∙ c .are-zero x (less x k f)

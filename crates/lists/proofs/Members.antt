@@ -1,0 +1,47 @@
+-- Laws of membership in a list of numbers, as it is looked for from a place on.
+-- Assumes nothing.
+use mathlib.Core.Path.{_≡_, refl, sym, _∙_}
+use mathlib.Core.Bool.{Bool, true, false, true≢false, or-true}
+use mathlib.Core.List.{List, [], _∷_}
+use Prim.Native.Nat.{ℕ, zero, suc, _+_, _≤_, _<_}
+use native.Mathlib.Numerals.{add-one}
+use native.Mathlib.Omega.{arith}
+use lib.ListN.{length, getD, drop, drop-of-length-le}
+use lib.Seq.{drop-cons}
+use lib.Dec.{eqb}
+use borrow.Author.Tests.{eqb-true, eq-eqb, ne-eqb}
+use Rattle.lists.specs.Lists.{member}
+
+-- an element of a list stands in it
+pub member-at : (xs : List ℕ) (i : ℕ) → i < length xs → member (getD xs i 0) xs ≡ true
+member-at [] i l = absurd (omega arith)
+member-at (x ∷ xs) zero l = rw (eq-eqb x x refl)
+member-at (x ∷ xs) (suc i) l = rw (member-at xs i (omega arith)) (or-true (eqb x (getD xs i 0)))
+
+-- a number of a list stands at a position of it
+pub record Position (x : ℕ) (xs : List ℕ) : Type 0 where
+  pub at : ℕ
+  pub inside : at < length xs
+  pub holds : getD xs at 0 ≡ x
+
+pub position-of : (x : ℕ) (xs : List ℕ) → member x xs ≡ true → Position x xs
+position-of x [] e = absurd (true≢false (sym e))
+position-of x (y ∷ xs) e = go (eqb y x) refl (position-of x xs)
+  where
+    go : (b : Bool) → eqb y x ≡ b → (member x xs ≡ true → Position x xs) → Position x (y ∷ xs)
+    go true f ih = record { at = 0; inside = omega arith; holds = eqb-true y x f }
+    go false f ih =
+        let p = ih (rw f at e) in
+        record { at = suc (p .at); inside = omega (arith, p .inside); holds = p .holds }
+
+-- b says whether x is in the list, if what is left from i on decides it: at the element there, and at the end
+module _ (l : List ℕ) (i : ℕ) (b : Bool) (x : ℕ) (left : b ≡ member x (drop i l)) where
+  pub member-ends : length l ≤ i → false ≡ b
+  member-ends h = sym (left ∙ rw (drop-of-length-le l {i = i} h))
+
+  module _ (h : i < length l) where
+    pub member-found : getD l i 0 ≡ x → true ≡ b
+    member-found e = sym (left ∙ rw (drop-cons l i 0 h, eq-eqb (getD l i 0) x e))
+
+    pub member-goes-on : (getD l i 0 ≡ x → ⊥) → b ≡ member x (drop (i + 1) l)
+    member-goes-on e = left ∙ rw (add-one i, drop-cons l i 0 h, ne-eqb (getD l i 0) x e)

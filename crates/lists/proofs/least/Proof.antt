@@ -1,0 +1,16 @@
+-- `lists::least` meets its contract.
+-- Assumes nothing.
+use mathlib.Core.Path.{refl}
+use mathlib.Core.Logic.{inl, inr}
+use native.Mathlib.Omega.{arith}
+use Rattle.lists.proofs.least.Statement.{statement}
+use Rattle.lists.proofs.least.Tie as tie
+
+returns : tie.Need-returns
+returns c = (omega (arith, c .if1 .taken), omega arith, inr refl)
+
+returns-2 : tie.Need-returns-2
+returns-2 c = (omega arith, omega (arith, c .if1 .left), inl refl)
+
+pub least-spec : {M : Type 1} → statement M
+least-spec = tie.close (tie.spec returns returns-2)

@@ -1,9 +1,0 @@
-pub mod Bytes
-pub mod Steps
-pub mod Walking
-pub mod Judged
-pub mod Stores
-pub mod Stored
-pub mod Contents
-pub mod Puts
-pub mod WholeSheet

@@ -1,0 +1,190 @@
+-- What a tracing answers and leaves, by its checks, for either engine: `last` is check 19 or 20.
+-- Assumes nothing.
+use mathlib.Core.Path.{_≡_, refl, sym, _∙_}
+use mathlib.Core.Bool.{Bool, true, false, cond}
+use mathlib.Core.Logic.{_⊎_, inl, inr}
+use mathlib.Core.List.{List, [], _∷_, _++_}
+use Prim.Native.Nat.{ℕ, _*_, _≤_, _<_}
+use native.Mathlib.Omega.{arith}
+use native.Mathlib.Decide.{decLt}
+use lib.ListN.{length}
+use lib.Dec.{leb}
+use borrow.Author.Tests.{ne-eqb, le-leb, lt-leb}
+use Rattle.lists.specs.Slices.{overlaid}
+use Rattle.ground.specs.Accumulation.{subaccumulations}
+use Rattle.search.specs.Tracing.{Tracing, pathCount, startCells, numbersEach}
+use Rattle.answers.specs.declared.Traced.{Traced}
+use Rattle.answers.specs.Checks.{Check, firstFailed, check19, check20, check21}
+use Rattle.answers.specs.Tracings.{tracedWith, tracedBy, Call, Lent, lent, chosenCells, chosenTracing, callChecks}
+use Rattle.answers.specs.Tracings.{Traces}
+use Rattle.answers.specs.Tracings.{leavesSubaccumulation, leavesStarts, leavesWork}
+use Rattle.answers.specs.Tracings.{recursionNumber, TracesByRecursion, stackNumber, TracesByStack}
+use Rattle.answers.proofs.FirstFailed.{handed-on}
+use Rattle.checks.proofs.Passed.{beyond-place, place-at-most}
+use Rattle.tracing.specs.declared.Prepared.{Prepared}
+use Rattle.tracing.specs.Answering.{refusedWith, Lists, ListsAndClears}
+use Rattle.tracing.specs.Preparing.{Prepares}
+
+module _ (q : Call) (old : Lent) where
+  abbrev t : Tracing
+  t = chosenTracing q
+
+  abbrev sub : List ℕ
+  sub = old .subaccumulation
+
+  abbrev filled : List ℕ
+  filled = overlaid (subaccumulations (q .catchment .grid) (q .catchment .outlets)) sub
+
+  abbrev choosing : List Check
+  choosing = callChecks q sub
+
+  -- the number was given before the grid was filled,
+  at-first : (n : ℕ) → (n ≡ 0 → ⊥) → n < 19 → Traces q old n (refusedWith n) old
+  unfolding tracedWith leavesSubaccumulation leavesStarts
+  at-first n z h =
+      let e19 : n ≡ 19 → ⊥ = λ e. omega (arith, h, e) in
+      let e20 : n ≡ 20 → ⊥ = λ e. omega (arith, h, e) in
+      let e21 : n ≡ 21 → ⊥ = λ e. omega (arith, h, e) in
+      record {
+        answers = rw (ne-eqb n 0 z, ne-eqb n 21 e21);
+        fills = rw (
+          ne-eqb 0 n (λ e. z (sym e)),
+          ne-eqb 19 n (λ e. e19 (sym e)),
+          ne-eqb 20 n (λ e. e20 (sym e)),
+          ne-eqb 21 n (λ e. e21 (sym e)),
+        );
+        lists = rw (ne-eqb 0 n (λ e. z (sym e)), ne-eqb 21 n (λ e. e21 (sym e)));
+      }
+
+  -- after it,
+  at-last : (n : ℕ) → (n ≡ 19) ⊎ (n ≡ 20) → Traces q old n (refusedWith n) (lent filled (old .starts))
+  unfolding tracedWith leavesSubaccumulation leavesStarts
+  at-last n (inl e) = record { answers = rw e; fills = rw e; lists = rw e }
+  at-last n (inr e) = record { answers = rw e; fills = rw e; lists = rw e }
+
+  -- or by the search
+  searched : (b : Bool)
+      → Traces q old (cond b 0 21) (tracedBy (cond b 0 21) t) (lent filled (overlaid (startCells t) (old .starts)))
+  unfolding leavesSubaccumulation leavesStarts
+  searched true = record { answers = refl; fills = refl; lists = refl }
+  searched false = record { answers = refl; fills = refl; lists = refl }
+
+  module _ {p : Prepared} {grid : List ℕ} (prep : Prepares (q .catchment) (q .place) (old .subaccumulation) p grid)
+      (last : Check) where
+    abbrev number : ℕ
+    number = firstFailed (choosing ++ (last ∷ check21 t (old .starts) ∷ []))
+
+    module _ (z : p .number ≡ 0 → ⊥) where
+      -- REFUSED BY 10 TO 18
+      early : number ≡ p .number
+      early = sym (handed-on choosing (last ∷ check21 t (old .starts) ∷ []) (prep .is-number) z)
+
+      small : p .number < 19
+      small = elim (decLt (p .number) 19) [
+        | yes h ↦ h
+        | no h ↦ absurd (place-at-most (q .catchment) _ (q .place) (p .number) (omega (arith, h))
+            (sym (prep .is-number)))
+      ]
+
+      refused-early : {r : Traced} → r ≡ refusedWith (p .number) → Traces q old number r (lent grid (old .starts))
+      refused-early e = rw (early, e, prep .refused z) (at-first (p .number) z small)
+
+    module _ (z : p .number ≡ 0) where
+      beyond : number ≡ firstFailed (last ∷ check21 t (old .starts) ∷ [])
+      beyond = beyond-place (q .catchment) _ (q .place) (last ∷ check21 t (old .starts) ∷ [])
+          (sym (prep .is-number) ∙ z)
+
+      -- BY 19 OR 20
+      late : last .passes ≡ false → number ≡ last .number
+      unfolding firstFailed
+      late e = beyond ∙ rw e
+
+      refused-late : last .passes ≡ false → (last .number ≡ 19) ⊎ (last .number ≡ 20) → {r : Traced}
+          → r ≡ refusedWith (last .number) → Traces q old number r (lent grid (old .starts))
+      refused-late f i e = rw (late f, e, prep .filled z) (at-last (last .number) i)
+
+      -- OR ANSWERED BY THE SEARCH
+      whole : last .passes ≡ true → number ≡ cond (leb (pathCount t) (length (old .starts))) 0 21
+      unfolding firstFailed check21
+      whole e = beyond ∙ rw e
+
+      answered-whole : last .passes ≡ true → {r : Traced} {list : List ℕ} → Lists t (old .starts) r list
+          → Traces q old number r (lent grid list)
+      answered-whole f l = rw (whole f, l .answers, l .lists, prep .filled z)
+          (searched (leb (pathCount t) (length (old .starts))))
+
+  -- ---- by recursion
+
+  module _ {p : Prepared} {grid : List ℕ} (prep : Prepares (q .catchment) (q .place)
+      (old .subaccumulation) p grid) where
+    pub recursion-first : (p .number ≡ 0 → ⊥) → {r : Traced} → r ≡ refusedWith (p .number)
+        → TracesByRecursion q old r (lent grid (old .starts))
+    unfolding recursionNumber
+    recursion-first z e = refused-early prep (check19 (chosenCells q)) z e
+
+    module _ (z : p .number ≡ 0) where
+      pub recursion-19 : 4096 < p .cells → {r : Traced} → r ≡ refusedWith 19
+          → TracesByRecursion q old r (lent grid (old .starts))
+      unfolding recursionNumber check19
+      recursion-19 h e = refused-late prep (check19 (chosenCells q)) z
+          (lt-leb (chosenCells q) 4096 (omega (arith, h, prep .counted z))) (inl refl) e
+
+      pub recursion-whole : p .cells ≤ 4096 → {r : Traced} {list : List ℕ}
+          → Lists (chosenTracing q) (old .starts) r list
+          → TracesByRecursion q old r (lent grid list)
+      unfolding recursionNumber check19
+      recursion-whole h l = answered-whole prep (check19 (chosenCells q)) z
+          (le-leb (chosenCells q) 4096 (omega (arith, h, prep .counted z))) l
+
+  -- ---- from pending cells, with the working space
+
+  module _ (work : List ℕ) where
+    -- it is kept where the search is not reached,
+    work-kept : (n : ℕ) → stackNumber q old work ≡ n → (n ≡ 0 → ⊥) → (n ≡ 21 → ⊥)
+        → work ≡ leavesWork q (stackNumber q old work) work
+    unfolding leavesWork
+    work-kept n e z y = rw (e, ne-eqb 0 n (λ i. z (sym i)), ne-eqb 21 n (λ i. y (sym i)))
+
+    -- and clear after it
+    work-clear : (b : Bool) → stackNumber q old work ≡ cond b 0 21 → {space : List ℕ} → space ≡ leavesWork q 0 work
+        → space ≡ leavesWork q (stackNumber q old work) work
+    unfolding leavesWork
+    work-clear true e f = rw e f
+    work-clear false e f = rw e f
+
+    module _ {p : Prepared} {grid : List ℕ}
+        (prep : Prepares (q .catchment) (q .place) (old .subaccumulation) p grid) where
+      pub stack-first : (p .number ≡ 0 → ⊥) → {r : Traced} → r ≡ refusedWith (p .number)
+          → TracesByStack q old work r (lent grid (old .starts)) work
+      unfolding stackNumber
+      stack-first z e =
+          let s = small prep (check20 (chosenCells q) work) z in
+          record {
+            traces = refused-early prep (check20 (chosenCells q) work) z e;
+            clears = work-kept (p .number) (early prep (check20 (chosenCells q) work) z) z (λ i. omega (arith, s, i));
+          }
+
+      module _ (z : p .number ≡ 0) where
+        pub stack-20 : length work < numbersEach * p .cells → {r : Traced} → r ≡ refusedWith 20
+            → TracesByStack q old work r (lent grid (old .starts)) work
+        unfolding stackNumber check20
+        stack-20 h e =
+            let last = check20 (chosenCells q) work in
+            let f = lt-leb (numbersEach * chosenCells q) (length work) (omega (arith, h, prep .counted z)) in
+            record {
+              traces = refused-late prep last z f (inr refl) e;
+              clears = work-kept 20 (late prep last z f) (λ i. absurd (omega (arith, i)))
+                  (λ i. absurd (omega (arith, i)));
+            }
+
+        pub stack-whole : numbersEach * p .cells ≤ length work → {r : Traced} {list space : List ℕ}
+            → ListsAndClears (chosenTracing q) (old .starts) (chosenCells q) work r list space
+            → TracesByStack q old work r (lent grid list) space
+        unfolding stackNumber check20 leavesWork
+        stack-whole h l =
+            let last = check20 (chosenCells q) work in
+            let f = le-leb (numbersEach * chosenCells q) (length work) (omega (arith, h, prep .counted z)) in
+            record {
+              traces = answered-whole prep last z f (l .listed);
+              clears = work-clear (leb (pathCount t) (length (old .starts))) (whole prep last z f) (l .clears);
+            }

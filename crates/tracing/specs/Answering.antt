@@ -1,0 +1,46 @@
+-- What a tracing answers, by what the search has found.
+-- Assumes nothing.
+use mathlib.Core.Path.{_≡_}
+use mathlib.Core.Bool.{Bool, cond}
+use mathlib.Core.List.{List}
+use Prim.Native.Nat.{ℕ, _*_}
+use lib.ListN.{length, getD}
+use lib.Dec.{leb}
+use Rattle.lengths.specs.declared.Length.{Length}
+use Rattle.lists.specs.Slices.{overlaid, zeros}
+use Rattle.ground.specs.Grid.{gridOf}
+use Rattle.ground.specs.Accumulation.{subaccumulation}
+use Rattle.search.specs.Tracing.{Tracing, pathCount, startCells, tracing, numbersEach}
+use Rattle.answers.specs.declared.Answer.the-variants.{Refused}
+use Rattle.answers.specs.declared.Traced.{Traced}
+use Rattle.answers.specs.Tracings.{answered, tracedWith, tracedBy}
+
+-- before the search nothing is visited or dropped
+abbrev pub refusedWith : ℕ → Traced
+refusedWith number = answered 0 0 (Refused number)
+
+-- the answer where the list has room for so many: 0, or 21
+abbrev pub answerWith : Length → ℕ → ℕ → ℕ → ℕ → Traced
+answerWith length paths visited dropped room = tracedWith (cond (leb paths room) 0 21) length paths visited dropped
+
+abbrev pub answerFor : Tracing → ℕ → Traced
+answerFor t room = tracedBy (cond (leb (pathCount t) room) 0 21) t
+
+-- at a place of the list of outlets: the cells of its subwatershed, and what the search tells of it
+module _ (rows cols : ℕ) (codes outlets : List ℕ) (place : ℕ) where
+  abbrev pub cellsOf : ℕ
+  cellsOf = subaccumulation (gridOf rows cols codes) outlets (getD outlets place 0)
+
+  abbrev pub tracingAt : Bool → Tracing
+  tracingAt dropping = tracing dropping (gridOf rows cols codes) outlets (getD outlets place 0)
+
+-- an engine has answered, and listed the starts
+pub record Lists (t : Tracing) (old : List ℕ) (r : Traced) (new : List ℕ) : Type 0 where
+  pub answers : r ≡ answerFor t (length old)
+  pub lists : new ≡ overlaid (startCells t) old
+
+-- and cleared the working numbers of so many cells
+pub record ListsAndClears (t : Tracing) (old : List ℕ) (cells : ℕ) (work : List ℕ) (r : Traced) (new space : List ℕ)
+    : Type 0 where
+  pub listed : Lists t old r new
+  pub clears : space ≡ overlaid (zeros (numbersEach * cells)) work
