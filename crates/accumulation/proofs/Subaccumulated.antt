@@ -17,28 +17,28 @@ use Rattle.checks.proofs.Passed.{Listed, sized, listed}
 use Rattle.filling.specs.Filling.{Fillable, Fills, filledIf}
 use Rattle.filling.proofs.NoRings.{agrees-cut-free}
 
-module _ (c : Catchment) (sub : List ℕ) where
+module _ (c : Catchment) (old : List ℕ) where
   abbrev land : Grid
   land = c .grid
 
   abbrev pub lengths : List ℕ
-  lengths = length (c .accumulation) ∷ length sub ∷ []
+  lengths = length (c .accumulation) ∷ length old ∷ []
 
   abbrev pub before : List Check
   before = outletChecks c lengths
 
   -- what is left, by the number
-  leaves-0 : subaccumulateNumber c sub ≡ 0 → overlaid (subaccumulations land (c .outlets)) sub
-      ≡ subaccumulateLeaves c sub
+  leaves-0 : subaccumulateNumber c old ≡ 0 → overlaid (subaccumulations land (c .outlets)) old
+      ≡ subaccumulateLeaves c old
   unfolding subaccumulateLeaves
   leaves-0 e = rw e
 
-  leaves-it : (n : ℕ) → subaccumulateNumber c sub ≡ n → (n ≡ 0 → ⊥) → sub ≡ subaccumulateLeaves c sub
+  leaves-it : (n : ℕ) → subaccumulateNumber c old ≡ n → (n ≡ 0 → ⊥) → old ≡ subaccumulateLeaves c old
   unfolding subaccumulateLeaves
   leaves-it n e z = rw (e, ne-eqb n 0 z)
 
   -- REFUSED
-  pub refused : {number : ℕ} → number ≡ firstFailed before → (number ≡ 0 → ⊥) → Subaccumulates c sub number sub
+  pub refused : {number : ℕ} → number ≡ firstFailed before → (number ≡ 0 → ⊥) → Subaccumulates c old number old
   unfolding subaccumulateNumber
   refused {number} is f = record { answers = is; leaves = leaves-it number (sym is) f }
 
@@ -47,27 +47,27 @@ module _ (c : Catchment) (sub : List ℕ) where
     pub good : Listed land (c .accumulation) (c .outlets)
     good = listed c lengths rest 0 (inl (omega arith)) passes
 
-    pub fillable : Fillable (land .rows) (land .cols) (land .codes) (c .outlets) sub
+    pub fillable : Fillable (land .rows) (land .cols) (land .codes) (c .outlets) old
     fillable =
         let s = sized (land .rows) (land .cols) (land .codes) lengths _ 0 (inl (omega arith)) passes in
         record {
           grid = s .grid;
           some-cols = s .some-cols;
-          has-words = s .reach (length sub) (inr (inl refl));
+          has-words = s .reach (length old) (inr (inl refl));
           on-ground = good .at-ground;
         }
 
     -- filling succeeds
-    pub filled-sub : {b : Bool} {exit : List ℕ} → Fills land (c .outlets) sub b exit
-        → exit ≡ filledIf land (c .outlets) true sub
-    filled-sub f = f .leaves ∙ ap (λ (t : Bool). filledIf land (c .outlets) t sub)
+    pub filled-sub : {b : Bool} {exit : List ℕ} → Fills land (c .outlets) old b exit
+        → exit ≡ filledIf land (c .outlets) true old
+    filled-sub f = f .leaves ∙ ap (λ (t : Bool). filledIf land (c .outlets) t old)
         (f .answers ∙ agrees-cut-free land (c .outlets) (c .accumulation) (good .agreement))
 
   -- FILLED
   module _ {number : ℕ} (is : number ≡ firstFailed before) (z : number ≡ 0) where
-    pub passed-fillable : Fillable (land .rows) (land .cols) (land .codes) (c .outlets) sub
+    pub passed-fillable : Fillable (land .rows) (land .cols) (land .codes) (c .outlets) old
     passed-fillable = fillable [] (sym is ∙ z)
 
-    pub filled : {b : Bool} {exit : List ℕ} → Fills land (c .outlets) sub b exit → Subaccumulates c sub 0 exit
+    pub filled : {b : Bool} {exit : List ℕ} → Fills land (c .outlets) old b exit → Subaccumulates c old 0 exit
     unfolding subaccumulateNumber
     filled f = let e = sym is ∙ z in record { answers = sym e; leaves = filled-sub [] e f ∙ leaves-0 e }

@@ -31,9 +31,9 @@ module _ (q : Call) where
   abbrev pub Promise : Type 0
   Promise = Demand3 grid outlets anyCell (chosen q) (chosenTracing q) (tracing false grid outlets (chosen q))
 
-  passed-promise : (sub : List ℕ) → Every (λ c. c .passes ≡ true) (callChecks q sub) → Promise
+  passed-promise : (old : List ℕ) → Every (λ c. c .passes ≡ true) (callChecks q old) → Promise
   unfolding check14 check16 check18
-  passed-promise sub p =
+  passed-promise old p =
       let inside = ltb-true (q .place) (length outlets) (p .1 .1 .1 .1 .1 .1 .1 .0) in
       let placed = and-both (ltb (chosen q) (cellCount grid)) (ground grid (chosen q))
       (all-at (λ o. ltb o (cellCount grid) && ground grid o) outlets (p .1 .1 .1 .1 .1 .0) (q .place) inside) in

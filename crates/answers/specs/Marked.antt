@@ -125,7 +125,7 @@ worked (traces r c codes outs n left ways) =
     (subaccumulateNumber (lentCatchment g outs) (lentGrid g))
     (subaccumulateLeaves (lentCatchment g outs) (lentGrid g))
     (map (tracingAt g outs) (upTo (length outs)))
-worked (calls r c codes outs place starts work t sub left clean) =
+worked (calls r c codes outs place starts work t filled left clean) =
     let g = gridOf r c codes in
     calls r c codes outs place starts work
     (calledAnswer g outs place starts (nines work))

@@ -73,7 +73,7 @@ module _ (q : Call) where
 
   -- 10, 11 of three grids, 12, 14 to 18
   abbrev pub callChecks : List ℕ → List Check
-  callChecks sub = placeChecks (q .catchment) (q .place) (length (q .catchment .accumulation) ∷ length sub ∷ [])
+  callChecks old = placeChecks (q .catchment) (q .place) (length (q .catchment .accumulation) ∷ length old ∷ [])
 
   -- what either leaves, by its number. The subaccumulation grid is filled once 18 is past: on 0, 19, 20 and 21
   unfoldable pub leavesSubaccumulation : ℕ → List ℕ → List ℕ

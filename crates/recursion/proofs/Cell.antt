@@ -24,7 +24,7 @@ use Rattle.progress.specs.Starts.{kept, begun, startAt, startsOf, stateOf}
 use Rattle.upstream.specs.Ready.{Ready, OnGround}
 use Rattle.recursion.specs.Tracing.{VisitedAt, CellReady, InflowsReady, CellTraced, InflowsTraced, Traced}
 
-module _ {rows cols : ℕ} {codes outlets subs : List ℕ} (ready : Ready rows cols codes outlets subs) where
+module _ {rows cols : ℕ} {codes outlets subaccumulations : List ℕ} (ready : Ready rows cols codes outlets subaccumulations) where
   abbrev g : Grid
   g = gridOf rows cols codes
 
@@ -32,7 +32,7 @@ module _ {rows cols : ℕ} {codes outlets subs : List ℕ} (ready : Ready rows c
   sub x = subaccumulation g outlets x
 
   -- the number of cells that the source reads
-  pub cells-read : (row col : ℕ) → row < rows → col < cols → getD subs (row * cols + col) 0 ≡ sub (row * cols + col)
+  pub cells-read : (row col : ℕ) → row < rows → col < cols → getD subaccumulations (row * cols + col) 0 ≡ sub (row * cols + col)
   cells-read row col h k = ready .filled (row * cols + col) (digits-lt h k)
 
   module _ {row col : ℕ} {len : Length} {p : Progress} {old : List ℕ}
@@ -41,10 +41,10 @@ module _ {rows cols : ℕ} {codes outlets subs : List ℕ} (ready : Ready rows c
     x = row * cols + col
 
     -- a cell of ground has a place in the lent list, and the record has room for it
-    pub has-place : (x < length subs) × (x < 2 ^ 24)
+    pub has-place : (x < length subaccumulations) × (x < 2 ^ 24)
     has-place =
         let h = digits-lt (cell .row-in) (cell .col-in) in
-        (omega (arith, h, ready .has-subs), omega (arith, h, size (ready .grid .sides)))
+        (omega (arith, h, ready .has-subaccumulations), omega (arith, h, size (ready .grid .sides)))
 
     pub has-room : (p .paths < 4096) × (p .visited < 4096)
     has-room =
@@ -54,7 +54,7 @@ module _ {rows cols : ℕ} {codes outlets subs : List ℕ} (ready : Ready rows c
     above : suc (cellsIn g outlets dirs x) ≡ sub x
     above = cells-above g (ready .lent) (ready .agreed) outlets x (cell .solid)
 
-    module _ {q : Progress} {mid : List ℕ} (v : VisitedAt subs x len p old q mid) where
+    module _ {q : Progress} {mid : List ℕ} (v : VisitedAt subaccumulations x len p old q mid) where
       visited-one : q .visited ≡ p .visited + 1
       visited-one = ap (λ (st : State squares). st .visited) (v .visited .state)
 

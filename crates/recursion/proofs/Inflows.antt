@@ -71,8 +71,8 @@ module _ (rule : Rule squares) (g : Grid) (outlets : List ℕ) (x : ℕ) (len : 
             rw n (omega (arith, ih .1)),
           )
 
-  to-turn : {rows cols : ℕ} {codes subs : List ℕ} {row col k : ℕ} {t : Turn}
-      → NextTurn rows cols codes outlets subs row col k t → g ≡ gridOf rows cols codes → x ≡ row * cols + col
+  to-turn : {rows cols : ℕ} {codes subaccumulations : List ℕ} {row col k : ℕ} {t : Turn}
+      → NextTurn rows cols codes outlets subaccumulations row col k t → g ≡ gridOf rows cols codes → x ≡ row * cols + col
       → (turnTo squares rule g outlets (drop k dirs) x len st
       ≡ turnTo squares rule g outlets (drop (t .k) dirs) x len st)
       × (cellsIn g outlets (drop k dirs) x ≡ cellsIn g outlets (drop (t .k) dirs) x)
@@ -81,10 +81,10 @@ module _ (rule : Rule squares) (g : Grid) (outlets : List ℕ) (x : ℕ) (len : 
       rw e at (skip (t .k - k) k (omega (arith, next .last, next .from))
       (λ i a b. rw (is-g, is-x) (next .skipped i a (omega arith))))
 
-module _ {rows cols : ℕ} {codes outlets subs : List ℕ} (ready : Ready rows cols codes outlets subs) (dropping : Bool)
+module _ {rows cols : ℕ} {codes outlets subaccumulations : List ℕ} (ready : Ready rows cols codes outlets subaccumulations) (dropping : Bool)
     {row col : ℕ} {len : Length} {k : ℕ} {p : Progress} {old : List ℕ}
     (inflows : InflowsReady rows cols codes outlets row col len k p old) {t : Turn}
-    (next : NextTurn rows cols codes outlets subs row col k t) where
+    (next : NextTurn rows cols codes outlets subaccumulations row col k t) where
   abbrev g : Grid
   g = gridOf rows cols codes
 
@@ -138,7 +138,7 @@ module _ {rows cols : ℕ} {codes outlets subs : List ℕ} (ready : Ready rows c
     inside = digits-lt (next .row-in h) (next .col-in h)
 
     -- its cells and its step, as the source has them
-    pub cells-lent : t .cells ≡ getD subs y 0
+    pub cells-lent : t .cells ≡ getD subaccumulations y 0
     cells-lent = ap (λ (u : Turn). u .cells) (next .is-turn h)
 
     pub cells-are : t .cells ≡ sub y

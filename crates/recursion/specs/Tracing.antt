@@ -22,22 +22,22 @@ use Rattle.recursion.specs.declared.Turn.{Turn}
 
 -- the turn to neighbour k, at a row and a column: its cells and its step by what is lent
 abbrev pub turnAt : ℕ → List ℕ → List ℕ → ℕ → ℕ → ℕ → Turn
-turnAt cols codes subs k row col = record {
+turnAt cols codes subaccumulations k row col = record {
   k = k;
   row = row;
   col = col;
-  cells = getD subs (row * cols + col) 0;
+  cells = getD subaccumulations (row * cols + col) 0;
   step = stepBy (leadOf (getD codes (row * cols + col) 0));
 }
 
 -- a cell whose neighbours are looked at, from k on
-pub record TurnReady (rows cols : ℕ) (codes subs : List ℕ) (row col k : ℕ) : Type 0 where
+pub record TurnReady (rows cols : ℕ) (codes subaccumulations : List ℕ) (row col k : ℕ) : Type 0 where
   pub on : OnCell rows cols codes row col
-  pub has-subs : rows * cols ≤ length subs
+  pub has-subaccumulations : rows * cols ≤ length subaccumulations
   pub within : k ≤ 8
 
 -- the next direction, from k on, in which there is something to turn to
-pub record NextTurn (rows cols : ℕ) (codes outlets subs : List ℕ) (row col k : ℕ) (r : Turn) : Type 0 where
+pub record NextTurn (rows cols : ℕ) (codes outlets subaccumulations : List ℕ) (row col k : ℕ) (r : Turn) : Type 0 where
   pub from : k ≤ r .k
   pub last : r .k ≤ 8
   pub skipped : (i : ℕ) → k ≤ i → i < r .k → inflowIn (gridOf rows cols codes) outlets (row * cols + col) (dirAt i)
@@ -46,12 +46,12 @@ pub record NextTurn (rows cols : ℕ) (codes outlets subs : List ℕ) (row col k
       ≡ some (r .row * cols + r .col)
   pub row-in : r .k < 8 → r .row < rows
   pub col-in : r .k < 8 → r .col < cols
-  pub is-turn : r .k < 8 → r ≡ turnAt cols codes subs (r .k) (r .row) (r .col)
+  pub is-turn : r .k < 8 → r ≡ turnAt cols codes subaccumulations (r .k) (r .row) (r .col)
 
 -- a cell was visited; a headwater, of one cell, has met its length
-pub record VisitedAt (subs : List ℕ) (x : ℕ) (len : Length) (p : Progress) (old : List ℕ) (r : Progress) (new : List ℕ)
+pub record VisitedAt (subaccumulations : List ℕ) (x : ℕ) (len : Length) (p : Progress) (old : List ℕ) (r : Progress) (new : List ℕ)
     : Type 0 where
-  pub visited : Visited old new 4096 x (eqb (getD subs x 0) 1) len p r
+  pub visited : Visited old new 4096 x (eqb (getD subaccumulations x 0) 1) len p r
   pub room : length new ≡ length old
 
 -- the search has this many cells to go at most, of the 4,096 for which there is room; lengths are no more than cells

@@ -26,7 +26,7 @@ use Rattle.stack.specs.Pending.{onTop, inflowsAbove}
 use Rattle.stack.specs.Draining.{Waits, cellsPending}
 use Rattle.stack.proofs.Above.{Follows, follows, few-pending, some-cells}
 
-module _ {rows cols : ℕ} {codes outlets subs : List ℕ} (ready : Ready rows cols codes outlets subs) {row col : ℕ}
+module _ {rows cols : ℕ} {codes outlets subaccumulations : List ℕ} (ready : Ready rows cols codes outlets subaccumulations) {row col : ℕ}
     (at : OnGround rows cols codes row col) where
   abbrev g : Grid
   g = gridOf rows cols codes
@@ -42,15 +42,15 @@ module _ {rows cols : ℕ} {codes outlets subs : List ℕ} (ready : Ready rows c
 
   -- its number is an index, and small
   pub indexed : (x < rows * cols) × (rows * cols ≤ 16777216) × (rows * cols ≤ length codes)
-      × (rows * cols ≤ length subs)
+      × (rows * cols ≤ length subaccumulations)
   indexed = (
     digits-lt (at .row-in) (at .col-in),
     size (ready .grid .sides),
     ready .grid .has-codes,
-    ready .has-subs,
+    ready .has-subaccumulations,
   )
 
-  pub read : getD subs x 0 ≡ sub x
+  pub read : getD subaccumulations x 0 ≡ sub x
   read = ready .filled x (indexed .0)
 
   pub small-cells : sub x ≤ 16777216
@@ -98,7 +98,7 @@ module _ {rows cols : ℕ} {codes outlets subs : List ℕ} (ready : Ready rows c
   -- ---- the outlets that flow in
 
   abbrev value : Dir → ℕ
-  value d = inflowValue g subs d (neighbour g x d)
+  value d = inflowValue g subaccumulations d (neighbour g x d)
 
   -- a direction in which no outlet flows in, and one in which an outlet does
   side : (d : Dir)
@@ -119,7 +119,7 @@ module _ {rows cols : ℕ} {codes outlets subs : List ℕ} (ready : Ready rows c
           let e = ready .filled y (ground-within g y v) in
           flowing y n f e (some-cells g outlets (ready .lent) (ready .agreed) y v) c o
         where
-          flowing : (y : ℕ) → neighbour g x d ≡ some y → flowsIn g d (some y) ≡ true → getD subs y 0 ≡ sub y → 1 ≤ sub y
+          flowing : (y : ℕ) → neighbour g x d ≡ some y → flowsIn g d (some y) ≡ true → getD subaccumulations y 0 ≡ sub y → 1 ≤ sub y
               → (c : Bool) → member y outlets ≡ c → Side
           flowing y n f e h false o = inl (rw (n, f, o), rw (n, f, o) e)
           flowing y n f e h true o = inr (rw (n, f, o), rw (n, f) (omega arith))
@@ -154,7 +154,7 @@ module _ {rows cols : ℕ} {codes outlets subs : List ℕ} (ready : Ready rows c
           same = λ h. absurd (omega (arith, s .0, s .1, ih .no-fewer));
         }
 
-    pub no-outlet : {values : List ℕ} → values ≡ inflowRecord g subs x → {n : ℕ} → n ≡ sub x → sumOf values ≡ n - 1
+    pub no-outlet : {values : List ℕ} → values ≡ inflowRecord g subaccumulations x → {n : ℕ} → n ≡ sub x → sumOf values ≡ n - 1
         → inflowsAbove g [] x len dirs ≡ inflowsAbove g outlets x len dirs
     unfolding inflowRecord
     no-outlet v {n} is-n e = alike dirs .same

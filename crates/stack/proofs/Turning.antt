@@ -43,7 +43,7 @@ pub drains-on : {g : Grid} {outlets : List ℕ} {dropping : Bool} {end : ℕ} {s
     → drain g outlets dropping (pending new (r .top)) (stateOf (r .progress) new end) ≡ st
 drains-on t e = t .drains ∙ e
 
-module _ {rows cols : ℕ} {codes outlets subs : List ℕ} (ready : Ready rows cols codes outlets subs) where
+module _ {rows cols : ℕ} {codes outlets subaccumulations : List ℕ} (ready : Ready rows cols codes outlets subaccumulations) where
   abbrev g : Grid
   g = gridOf rows cols codes
 

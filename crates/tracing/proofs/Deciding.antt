@@ -29,14 +29,14 @@ module _ (q : Call) (old : Lent) where
   abbrev t : Tracing
   t = chosenTracing q
 
-  abbrev sub : List ℕ
-  sub = old .subaccumulation
+  abbrev given : List ℕ
+  given = old .subaccumulation
 
   abbrev filled : List ℕ
-  filled = overlaid (subaccumulations (q .catchment .grid) (q .catchment .outlets)) sub
+  filled = overlaid (subaccumulations (q .catchment .grid) (q .catchment .outlets)) given
 
   abbrev choosing : List Check
-  choosing = callChecks q sub
+  choosing = callChecks q given
 
   -- the number was given before the grid was filled,
   at-first : (n : ℕ) → (n ≡ 0 → ⊥) → n < 19 → Traces q old n (refusedWith n) old

@@ -20,23 +20,23 @@ use Rattle.upstream.specs.Ready.{Ready}
 use Rattle.tracing.specs.declared.Prepared.{Prepared}
 use Rattle.tracing.specs.Preparing.{Chosen, Prepares}
 
-module _ (c : Catchment) (place : ℕ) (sub : List ℕ)
-    (passes : firstFailed (placeChecks c place (lengths c sub)) ≡ 0) where
+module _ (c : Catchment) (place : ℕ) (old : List ℕ)
+    (passes : firstFailed (placeChecks c place (lengths c old)) ≡ 0) where
   abbrev land : Grid
   land = c .grid
 
   abbrev outlet : ℕ
   outlet = getD (c .outlets) place 0
 
-  sizes : Sized (land .rows) (land .cols) (land .codes) (lengths c sub)
-  sizes = sized (land .rows) (land .cols) (land .codes) (lengths c sub) _ 0 (inl (omega arith)) passes
+  sizes : Sized (land .rows) (land .cols) (land .codes) (lengths c old)
+  sizes = sized (land .rows) (land .cols) (land .codes) (lengths c old) _ 0 (inl (omega arith)) passes
 
   list : Listed land (c .accumulation) (c .outlets)
-  list = good c sub (check18 (c .outlets) place ∷ []) passes
+  list = good c old (check18 (c .outlets) place ∷ []) passes
 
   pub chosen : Chosen (land .rows) (land .cols) (land .codes) (c .outlets) place
   chosen =
-      let i = in-list c (lengths c sub) place passes in
+      let i = in-list c (lengths c old) place passes in
       record { some-cols = sizes .some-cols; in-list = i; solid = list .at-ground place i }
 
   pub few : place < 256
@@ -45,28 +45,28 @@ module _ (c : Catchment) (place : ℕ) (sub : List ℕ)
   within : outlet < cellCount land
   within = ground-within land outlet (chosen .solid)
 
-  module _ {grid : List ℕ} (filled : grid ≡ overlaid (subaccumulations land (c .outlets)) sub) where
-    long : length grid ≡ length sub
-    long = ap (λ (l : List ℕ). length l) filled ∙ overlaid-length (subaccumulations land (c .outlets)) sub
+  module _ {new : List ℕ} (filled : new ≡ overlaid (subaccumulations land (c .outlets)) old) where
+    long : length new ≡ length old
+    long = ap (λ (l : List ℕ). length l) filled ∙ overlaid-length (subaccumulations land (c .outlets)) old
 
-    at-cell : (x : ℕ) → x < cellCount land → getD grid x 0 ≡ subaccumulation land (c .outlets) x
+    at-cell : (x : ℕ) → x < cellCount land → getD new x 0 ≡ subaccumulation land (c .outlets) x
     at-cell x h = ap (λ (l : List ℕ). getD l x 0) filled
-        ∙ filled-at land (c .outlets) sub (sizes .reach (length sub) (inr (inl refl))) x h
+        ∙ filled-at land (c .outlets) old (sizes .reach (length old) (inr (inl refl))) x h
 
-    pub ready : Ready (land .rows) (land .cols) (land .codes) (c .outlets) grid
+    pub ready : Ready (land .rows) (land .cols) (land .codes) (c .outlets) new
     ready = record {
       grid = sizes .grid;
-      has-subs = omega (arith, long, sizes .reach (length sub) (inr (inl refl)));
+      has-subaccumulations = omega (arith, long, sizes .reach (length old) (inr (inl refl)));
       lent = c .accumulation;
       agreed = list .agreement;
       filled = at-cell;
     }
 
     -- the outlet's own cells
-    pub in-grid : outlet < length grid
-    in-grid = omega (arith, within, ready .has-subs)
+    pub in-grid : outlet < length new
+    in-grid = omega (arith, within, ready .has-subaccumulations)
 
-    pub cells : getD grid outlet 0 ≡ subaccumulation land (c .outlets) outlet
+    pub cells : getD new outlet 0 ≡ subaccumulation land (c .outlets) outlet
     cells = at-cell outlet within
 
 -- the same, of what was prepared

@@ -17,12 +17,12 @@ use Rattle.search.specs.Search.{State, firstRule, searchFrom}
 use Rattle.progress.specs.declared.Progress.{Progress}
 use Rattle.progress.specs.Starts.{stateOf}
 
-pub record Ready (rows cols : ℕ) (codes outlets subs : List ℕ) : Type 0 where
+pub record Ready (rows cols : ℕ) (codes outlets subaccumulations : List ℕ) : Type 0 where
   pub grid : LentGrid rows cols codes
-  pub has-subs : rows * cols ≤ length subs
+  pub has-subaccumulations : rows * cols ≤ length subaccumulations
   pub lent : List ℕ
   pub agreed : agrees (gridOf rows cols codes) lent ≡ true
-  pub filled : (x : ℕ) → x < rows * cols → getD subs x 0 ≡ subaccumulation (gridOf rows cols codes) outlets x
+  pub filled : (x : ℕ) → x < rows * cols → getD subaccumulations x 0 ≡ subaccumulation (gridOf rows cols codes) outlets x
 
 -- the cells of the subwatershed that drain through a cell
 abbrev pub cellsAt : ℕ → ℕ → List ℕ → List ℕ → ℕ → ℕ → ℕ

@@ -101,7 +101,7 @@ module _ (t : ℕ) where
       let here = s .pre .1 .1 in
       record {
         on = record { grid = ready .grid; row-in = here .row-in; col-in = here .col-in };
-        has-subs = ready .has-subs;
+        has-subaccumulations = ready .has-subaccumulations;
         within = here .within;
       }
 
