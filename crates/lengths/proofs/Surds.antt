@@ -4,7 +4,7 @@
 use mathlib.Core.Path.{_≡_, refl, sym, ap}
 use mathlib.Core.Bool.{Bool, true, false, not}
 use Prim.Native.Nat.{ℕ, zero, suc, _+_, _*_, _-_, _/_, _%_, _≤_, _<_}
-use native.Mathlib.Nat.{mul-le-mul, mul-le-mul-left, sub-eq-zero-of-le, sub-le, add-comm, zero-sub, sub-zero}
+use native.Mathlib.Nat.{mul-le-mul, mul-le-mul-left, sub-eq-zero-of-le, sub-le, add-comm}
 use native.Mathlib.Omega.{arith}
 use native.Mathlib.Decide.{decLe}
 use lib.Dec.{ltb, leb}
@@ -177,10 +177,6 @@ SurdAtMost-trans k a b c d e f h h′ = at-most-of k a b e f (go (way-of k a b c
     go (slant p q x y l) (flat p′ q′ x′ y′ l′) = mixed p′ q′ p q l′ l (omega arith) (omega arith)
 
 -- the test and the fact
-pub surd-true : (k a b c d : ℕ) → surdLess k a b c d ≡ true → SurdAtMost k c d a b → ⊥
-unfolding surdLess SurdAtMost
-surd-true k a b c d t h = omega (arith, ltb-true (excess k a b c d) (excess k c d a b) t)
-
 pub surd-false : (k a b c d : ℕ) → surdLess k a b c d ≡ false → SurdAtMost k c d a b
 unfolding surdLess SurdAtMost
 surd-false k a b c d t = ltb-false (excess k a b c d) (excess k c d a b) t
@@ -234,15 +230,6 @@ surd-more k a b i j h = rw (none a i, none b j, all a i, all b j)
 
         less : j ≤ 0 → ⊥
         less m = omega (arith, mul-le-mul-left k m)
-
--- w is at most √k
-pub surd-root : (k w : ℕ) → w * w ≤ k → surdLess k 0 1 w 0 ≡ false
-unfolding surdLess squareSum
-surd-root k w h = rw (zero-sub w, sub-zero w) (le-ltb (squareSum k 0 1) (squareSum k w 0) (omega arith))
-
-pub surd-refl : (k a b : ℕ) → surdLess k a b a b ≡ false
-unfolding surdLess
-surd-refl k a b = le-ltb (excess k a b a b) (excess k a b a b) (omega arith)
 
 square-zero : (x : ℕ) → x * x ≤ 0 → x ≡ 0
 square-zero x l = elim (decLe 1 x) [ yes m ↦ absurd (never m) | no m ↦ omega arith ]

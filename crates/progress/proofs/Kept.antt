@@ -10,15 +10,14 @@ use native.Mathlib.Omega.{arith}
 use lib.ListN.{length, getD, set, length-append}
 use lib.Seq.{getD-set-same, getD-set-other}
 use lib.Dec.{eqb}
-use borrow.Author.Tests.{eq-eqb, ne-eqb}
+use borrow.Author.Tests.{ne-eqb}
 use Rattle.lengths.specs.declared.Length.{Length}
 use Rattle.lengths.specs.declared.Order.{Order}
 use Rattle.lengths.specs.declared.Order.the-variants.{Shorter, Same, Longer}
-use Rattle.lengths.specs.Rule.{counts, compared, saysShorter, isShorter}
+use Rattle.lengths.specs.Rule.{compared, saysShorter, isShorter}
 use Rattle.lengths.proofs.Ordered.{opposite, compared-back, same-counts}
-use Rattle.ground.specs.Compass.{Dir, squares}
-use Rattle.search.specs.Search.{meet, firstRule, drops, belowGreatest}
-use Rattle.lengths.specs.Lengths.{farthest}
+use Rattle.ground.specs.Compass.{squares}
+use Rattle.search.specs.Search.{meet, belowGreatest}
 use Rattle.search.proofs.Meeting.{meet-shorter, meet-longer, meet-tie}
 use Rattle.progress.specs.declared.Progress.{Progress}
 use Rattle.progress.specs.Starts.{kept, startAt, startsOf, Met, Visited, isBelow}

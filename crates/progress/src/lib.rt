@@ -4,11 +4,8 @@ use lengths::Order;
 use lists::index_of;
 ghost use mathlib.Core.Path.{_≡_};
 ghost use mathlib.Core.Bool.{_&&_};
-ghost use mathlib.Core.List.{List, map};
-ghost use Prim.Native.Nat.{ℕ, _+_, _-_, _≤_, _<_, _^_};
+ghost use Prim.Native.Nat.{_+_, _-_, _≤_, _<_, _^_};
 ghost use lib.ListN.{length, set};
-ghost use Rattle.ground.specs.Compass.{squares};
-ghost use Rattle.search.specs.Search.{belowGreatest};
 ghost use Rattle.progress.specs.Starts.{progressOf, begun, isBelow, Room, Met, Visited};
 
 // The greatest length met and how many starts have it, the cells visited and the cells dropped. The starts themselves

@@ -24,7 +24,8 @@ use Rattle.progress.specs.Starts.{kept, begun, startAt, startsOf, stateOf}
 use Rattle.upstream.specs.Ready.{Ready, OnGround}
 use Rattle.recursion.specs.Tracing.{VisitedAt, CellReady, InflowsReady, CellTraced, InflowsTraced, Traced}
 
-module _ {rows cols : ℕ} {codes outlets subaccumulations : List ℕ} (ready : Ready rows cols codes outlets subaccumulations) where
+module _ {rows cols : ℕ} {codes outlets subaccumulations : List ℕ}
+    (ready : Ready rows cols codes outlets subaccumulations) where
   abbrev g : Grid
   g = gridOf rows cols codes
 
@@ -32,7 +33,8 @@ module _ {rows cols : ℕ} {codes outlets subaccumulations : List ℕ} (ready : 
   sub x = subaccumulation g outlets x
 
   -- the number of cells that the source reads
-  pub cells-read : (row col : ℕ) → row < rows → col < cols → getD subaccumulations (row * cols + col) 0 ≡ sub (row * cols + col)
+  pub cells-read : (row col : ℕ) → row < rows → col < cols
+      → getD subaccumulations (row * cols + col) 0 ≡ sub (row * cols + col)
   cells-read row col h k = ready .filled (row * cols + col) (digits-lt h k)
 
   module _ {row col : ℕ} {len : Length} {p : Progress} {old : List ℕ}

@@ -72,7 +72,8 @@ module _ (rule : Rule squares) (g : Grid) (outlets : List ℕ) (x : ℕ) (len : 
           )
 
   to-turn : {rows cols : ℕ} {codes subaccumulations : List ℕ} {row col k : ℕ} {t : Turn}
-      → NextTurn rows cols codes outlets subaccumulations row col k t → g ≡ gridOf rows cols codes → x ≡ row * cols + col
+      → NextTurn rows cols codes outlets subaccumulations row col k t → g ≡ gridOf rows cols codes
+      → x ≡ row * cols + col
       → (turnTo squares rule g outlets (drop k dirs) x len st
       ≡ turnTo squares rule g outlets (drop (t .k) dirs) x len st)
       × (cellsIn g outlets (drop k dirs) x ≡ cellsIn g outlets (drop (t .k) dirs) x)
@@ -81,7 +82,8 @@ module _ (rule : Rule squares) (g : Grid) (outlets : List ℕ) (x : ℕ) (len : 
       rw e at (skip (t .k - k) k (omega (arith, next .last, next .from))
       (λ i a b. rw (is-g, is-x) (next .skipped i a (omega arith))))
 
-module _ {rows cols : ℕ} {codes outlets subaccumulations : List ℕ} (ready : Ready rows cols codes outlets subaccumulations) (dropping : Bool)
+module _ {rows cols : ℕ} {codes outlets subaccumulations : List ℕ}
+    (ready : Ready rows cols codes outlets subaccumulations) (dropping : Bool)
     {row col : ℕ} {len : Length} {k : ℕ} {p : Progress} {old : List ℕ}
     (inflows : InflowsReady rows cols codes outlets row col len k p old) {t : Turn}
     (next : NextTurn rows cols codes outlets subaccumulations row col k t) where

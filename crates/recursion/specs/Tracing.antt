@@ -49,8 +49,8 @@ pub record NextTurn (rows cols : ℕ) (codes outlets subaccumulations : List ℕ
   pub is-turn : r .k < 8 → r ≡ turnAt cols codes subaccumulations (r .k) (r .row) (r .col)
 
 -- a cell was visited; a headwater, of one cell, has met its length
-pub record VisitedAt (subaccumulations : List ℕ) (x : ℕ) (len : Length) (p : Progress) (old : List ℕ) (r : Progress) (new : List ℕ)
-    : Type 0 where
+pub record VisitedAt (subaccumulations : List ℕ) (x : ℕ) (len : Length) (p : Progress) (old : List ℕ) (r : Progress)
+    (new : List ℕ) : Type 0 where
   pub visited : Visited old new 4096 x (eqb (getD subaccumulations x 0) 1) len p r
   pub room : length new ≡ length old
 

@@ -9,20 +9,17 @@ use native.Mathlib.Nat.{div-add-mod', div-lt-iff-lt-mul, mod-lt}
 use native.Mathlib.Omega.{arith}
 use lib.ListN.{length}
 use Rattle.lengths.specs.declared.Length.{Length}
-use Rattle.lengths.specs.Rule.{plusStep}
 use Rattle.lists.specs.Lists.{Every}
-use Rattle.ground.specs.Compass.{Dir, E, opposite, stepOf, squares}
+use Rattle.ground.specs.Compass.{Dir, E, squares}
 use Rattle.ground.specs.Grid.{Grid, ground}
 use Rattle.ground.specs.Accumulation.{agrees, subaccumulation}
-use Rattle.moves.specs.Moves.{leadOf, leadBy}
-use Rattle.ground.proofs.Cells.{ground-within, points-flow}
+use Rattle.ground.proofs.Cells.{ground-within}
 use Rattle.ground.proofs.Ground.{sub-size}
 use Rattle.search.specs.Search.{State, firstRule, drops, dropCells}
 use Rattle.search.specs.Neighbours.{inflowIn, cellsIn, turnTo, enter}
 use Rattle.search.proofs.Neighbours.{Found, found-in, found-ground, turn-done, turn-none, turn-drops, turn-enters}
 use Rattle.stack.specs.declared.Pending.{Pending}
 use Rattle.stack.specs.Pending.{pendingOf, inflowsAbove}
-use Rattle.moves.specs.Moves.{stepBy}
 use Rattle.upstream.specs.Ready.{ownLength}
 use Rattle.upstream.proofs.Entering.{own-step}
 use Rattle.stack.specs.Draining.{cellOf, cellsPending, Waits, taken, drain}

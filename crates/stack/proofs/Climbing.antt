@@ -26,7 +26,8 @@ use Rattle.stack.specs.Pending.{onTop, inflowsAbove}
 use Rattle.stack.specs.Draining.{Waits, cellsPending}
 use Rattle.stack.proofs.Above.{Follows, follows, few-pending, some-cells}
 
-module _ {rows cols : ℕ} {codes outlets subaccumulations : List ℕ} (ready : Ready rows cols codes outlets subaccumulations) {row col : ℕ}
+module _ {rows cols : ℕ} {codes outlets subaccumulations : List ℕ}
+    (ready : Ready rows cols codes outlets subaccumulations) {row col : ℕ}
     (at : OnGround rows cols codes row col) where
   abbrev g : Grid
   g = gridOf rows cols codes
@@ -119,8 +120,8 @@ module _ {rows cols : ℕ} {codes outlets subaccumulations : List ℕ} (ready : 
           let e = ready .filled y (ground-within g y v) in
           flowing y n f e (some-cells g outlets (ready .lent) (ready .agreed) y v) c o
         where
-          flowing : (y : ℕ) → neighbour g x d ≡ some y → flowsIn g d (some y) ≡ true → getD subaccumulations y 0 ≡ sub y → 1 ≤ sub y
-              → (c : Bool) → member y outlets ≡ c → Side
+          flowing : (y : ℕ) → neighbour g x d ≡ some y → flowsIn g d (some y) ≡ true
+              → getD subaccumulations y 0 ≡ sub y → 1 ≤ sub y → (c : Bool) → member y outlets ≡ c → Side
           flowing y n f e h false o = inl (rw (n, f, o), rw (n, f, o) e)
           flowing y n f e h true o = inr (rw (n, f, o), rw (n, f) (omega arith))
 
@@ -154,8 +155,8 @@ module _ {rows cols : ℕ} {codes outlets subaccumulations : List ℕ} (ready : 
           same = λ h. absurd (omega (arith, s .0, s .1, ih .no-fewer));
         }
 
-    pub no-outlet : {values : List ℕ} → values ≡ inflowRecord g subaccumulations x → {n : ℕ} → n ≡ sub x → sumOf values ≡ n - 1
-        → inflowsAbove g [] x len dirs ≡ inflowsAbove g outlets x len dirs
+    pub no-outlet : {values : List ℕ} → values ≡ inflowRecord g subaccumulations x → {n : ℕ} → n ≡ sub x
+        → sumOf values ≡ n - 1 → inflowsAbove g [] x len dirs ≡ inflowsAbove g outlets x len dirs
     unfolding inflowRecord
     no-outlet v {n} is-n e = alike dirs .same
         (omega (arith, ap sumOf v, e, is-n, cells-above g (ready .lent) (ready .agreed) outlets x (at .solid)))

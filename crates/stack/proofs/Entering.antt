@@ -27,7 +27,8 @@ use Rattle.stack.proofs.Putting.{pending-same}
 use Rattle.stack.proofs.Above.{cells-append, all-append, drain-append}
 use Rattle.stack.proofs.Climbing.{one-cell, cells-but-one, all-above, few-above, followed}
 
-module _ {rows cols : ℕ} {codes outlets subaccumulations : List ℕ} (ready : Ready rows cols codes outlets subaccumulations) {row col : ℕ}
+module _ {rows cols : ℕ} {codes outlets subaccumulations : List ℕ}
+    (ready : Ready rows cols codes outlets subaccumulations) {row col : ℕ}
     (at : OnGround rows cols codes row col) where
   abbrev g : Grid
   g = gridOf rows cols codes

@@ -2,7 +2,7 @@
 -- Assumes nothing.
 use mathlib.Core.Path.{_≡_, refl, sym, ap, _∙_, subst}
 use mathlib.Core.Bool.{Bool, true, false, _&&_}
-use mathlib.Core.List.{List, _∷_, map}
+use mathlib.Core.List.{List, _∷_}
 use Prim.Native.Nat.{ℕ, _+_, _-_, _*_, _≤_, _<_, _^_}
 use native.Mathlib.Omega.{arith}
 use lib.ListN.{length, getD}
@@ -11,13 +11,13 @@ use Rattle.lengths.specs.declared.Length.{Length}
 use Rattle.lengths.specs.Rule.{counts, plusStep}
 use Rattle.lengths.specs.Lengths.{squareCells, farthest}
 use Rattle.lists.specs.Lists.{Every}
-use Rattle.ground.specs.Compass.{Dir, E, squares}
+use Rattle.ground.specs.Compass.{E, squares}
 use Rattle.ground.specs.Grid.{Grid, gridOf}
 use Rattle.ground.specs.Accumulation.{subaccumulation}
 use Rattle.moves.specs.Moves.{leadOf}
 use Rattle.ground.specs.Forest.{forest}
 use Rattle.ground.proofs.Cells.{code-inside}
-use Rattle.search.specs.Search.{State, firstRule, belowGreatest, drops, dropCells, searchFrom}
+use Rattle.search.specs.Search.{State, firstRule, drops, dropCells, searchFrom}
 use Rattle.search.specs.Neighbours.{enter}
 use Rattle.search.proofs.Neighbours.{search-enters}
 use Rattle.progress.specs.declared.Progress.{Progress}
@@ -43,7 +43,8 @@ pub drains-on : {g : Grid} {outlets : List ℕ} {dropping : Bool} {end : ℕ} {s
     → drain g outlets dropping (pending new (r .top)) (stateOf (r .progress) new end) ≡ st
 drains-on t e = t .drains ∙ e
 
-module _ {rows cols : ℕ} {codes outlets subaccumulations : List ℕ} (ready : Ready rows cols codes outlets subaccumulations) where
+module _ {rows cols : ℕ} {codes outlets subaccumulations : List ℕ}
+    (ready : Ready rows cols codes outlets subaccumulations) where
   abbrev g : Grid
   g = gridOf rows cols codes
 

@@ -6,17 +6,11 @@ use mathlib.Core.List.{List, [], _∷_, _++_}
 use Prim.Native.Nat.{ℕ, _+_, _*_, _≤_, _<_, _^_}
 use lib.ListN.{length, getD}
 use lib.Dec.{eqb}
-use Rattle.lengths.specs.declared.Step.{Step}
-use Rattle.lengths.specs.declared.Step.the-variants.{Straight}
 use Rattle.lengths.specs.declared.Length.{Length}
-use Rattle.lengths.specs.Rule.{plusStep}
-use Rattle.moves.specs.declared.Lead.{Lead}
-use Rattle.moves.specs.declared.Lead.the-variants.{Nowhere, By}
 use Rattle.lists.specs.Lists.{Every}
 use Rattle.ground.specs.Compass.{E, dirs, squares}
 use Rattle.ground.specs.Grid.{Grid, gridOf, ground}
 use Rattle.ground.specs.Accumulation.{subaccumulation}
-use Rattle.moves.specs.Moves.{leadOf}
 use Rattle.search.specs.Tracing.{numbersEach}
 use Rattle.search.specs.Search.{State, meetIf, firstRule, drops, dropCells}
 use Rattle.search.specs.Neighbours.{enter}

@@ -34,7 +34,8 @@ first-of : (l : Length) (cs : List ℕ) → 0 < length cs → firstLength (map (
 first-of l [] h = absurd (omega (arith, h))
 first-of l (c ∷ cs) h = refl
 
-module _ {rows cols : ℕ} {codes outlets subaccumulations : List ℕ} (ready : Ready rows cols codes outlets subaccumulations) {place : ℕ}
+module _ {rows cols : ℕ} {codes outlets subaccumulations : List ℕ}
+    (ready : Ready rows cols codes outlets subaccumulations) {place : ℕ}
     (chosen : Chosen rows cols codes outlets place) where
   abbrev land : Grid
   land = gridOf rows cols codes
@@ -43,7 +44,8 @@ module _ {rows cols : ℕ} {codes outlets subaccumulations : List ℕ} (ready : 
   outlet = getD outlets place 0
 
   -- its cells, in the grid
-  pub own-cells : (outlet < length subaccumulations) × (getD subaccumulations outlet 0 ≡ subaccumulation land outlets outlet)
+  pub own-cells : (outlet < length subaccumulations)
+      × (getD subaccumulations outlet 0 ≡ subaccumulation land outlets outlet)
   own-cells =
       let i = ground-within land outlet (chosen .solid) in
       (omega (arith, i, ready .has-subaccumulations), ready .filled outlet i)

@@ -22,7 +22,8 @@ pub record Ready (rows cols : ℕ) (codes outlets subaccumulations : List ℕ) :
   pub has-subaccumulations : rows * cols ≤ length subaccumulations
   pub lent : List ℕ
   pub agreed : agrees (gridOf rows cols codes) lent ≡ true
-  pub filled : (x : ℕ) → x < rows * cols → getD subaccumulations x 0 ≡ subaccumulation (gridOf rows cols codes) outlets x
+  pub filled : (x : ℕ) → x < rows * cols → getD subaccumulations x 0
+      ≡ subaccumulation (gridOf rows cols codes) outlets x
 
 -- the cells of the subwatershed that drain through a cell
 abbrev pub cellsAt : ℕ → ℕ → List ℕ → List ℕ → ℕ → ℕ → ℕ

@@ -2,10 +2,9 @@
 -- Assumes nothing.
 use mathlib.Core.Path.{_≡_, sym, ap, _∙_, subst}
 use mathlib.Core.List.{[]}
-use Prim.Native.Nat.{ℕ, _+_, _-_, _*_}
+use Prim.Native.Nat.{_+_, _*_}
 use native.Mathlib.Omega.{arith}
 use lib.ListN.{length}
-use Rattle.lists.specs.Lists.{sumOf}
 use Rattle.ground.specs.Compass.{dirs}
 use Rattle.ground.specs.Grid.{gridOf}
 use Rattle.stack.specs.Pending.{inflowsAbove, PutOn}
