@@ -9,7 +9,6 @@ use native.Mathlib.Omega.{arith}
 use lib.ListN.{length}
 use lib.Dec.{ltb}
 use borrow.Author.Tests.{ltb-true}
-use Rattle.lists.specs.Lists.{Every}
 use Rattle.lists.proofs.Lists.{and-both}
 use Rattle.lists.proofs.Members.{member-at}
 use Rattle.ground.specs.Grid.{Grid, cellCount, ground}
@@ -18,7 +17,7 @@ use Rattle.search.specs.Demand.{anyCell, Demand3}
 use Rattle.search.proofs.Demand3.{demand3}
 use Rattle.answers.specs.Checks.{check10, check11, check12, check14, check15, check16, check17, check18}
 use Rattle.answers.specs.Tracings.{Call, Lent, chosen, chosenTracing, callChecks, recursionNumber, stackNumber}
-use Rattle.answers.proofs.FirstFailed.{all-at, passed}
+use Rattle.answers.proofs.FirstFailed.{all-at, passesOf, passed}
 
 module _ (q : Call) where
   abbrev grid : Grid
@@ -31,13 +30,13 @@ module _ (q : Call) where
   abbrev pub Promise : Type 0
   Promise = Demand3 grid outlets anyCell (chosen q) (chosenTracing q) (tracing false grid outlets (chosen q))
 
-  passed-promise : (old : List ℕ) → Every (λ c. c .passes ≡ true) (callChecks q old) → Promise
-  unfolding check14 check16 check18
+  passed-promise : (old : List ℕ) → ((k : ℕ) → passesOf k (callChecks q old) ≡ true) → Promise
+  unfolding check10 check11 check12 check14 check15 check16 check17 check18
   passed-promise old p =
-      let inside = ltb-true (q .place) (length outlets) (p .1 .1 .1 .1 .1 .1 .1 .0) in
+      let inside = ltb-true (q .place) (length outlets) (p 18) in
       let placed = and-both (ltb (chosen q) (cellCount grid)) (ground grid (chosen q))
-      (all-at (λ o. ltb o (cellCount grid) && ground grid o) outlets (p .1 .1 .1 .1 .1 .0) (q .place) inside) in
-      demand3 grid (q .catchment .accumulation) (p .1 .1 .1 .0) outlets (chosen q)
+      (all-at (λ o. ltb o (cellCount grid) && ground grid o) outlets (p 16) (q .place) inside) in
+      demand3 grid (q .catchment .accumulation) (p 14) outlets (chosen q)
       (member-at outlets (q .place) inside) (placed .1) (q .dropping)
 
   -- none of the checks before gives 0 or 21

@@ -7,7 +7,7 @@ use mathlib.Core.List.{List, [], _∷_, _++_}
 use Prim.Native.Nat.{ℕ, zero, suc, _<_}
 use native.Mathlib.Omega.{arith}
 use lib.ListN.{length, getD}
-use lib.Dec.{leb}
+use lib.Dec.{eqb, leb}
 use borrow.Author.Tests.{leb-true}
 use Rattle.lists.specs.Lists.{Every}
 use Rattle.lists.proofs.Lists.{and-both}
@@ -19,17 +19,23 @@ all-at f [] h i l = absurd (omega arith)
 all-at f (x ∷ xs) h zero l = and-both (f x) (allPass f xs) h .0
 all-at f (x ∷ xs) h (suc i) l = all-at f xs (and-both (f x) (allPass f xs) h .1) i (omega arith)
 
+-- does the check of this number pass? Where there is none, nothing is asked
+abbrev pub passesOf : ℕ → List Check → Bool
+passesOf k [] = true
+passesOf k (c ∷ cs) = cond (eqb (c .number) k) (c .passes) (passesOf k cs)
+
 -- the checks before the one that gave the number all pass
-pub all-passed : (n : ℕ) (cs ds : List Check) → Every (λ c. c .number ≡ n → ⊥) cs → firstFailed (cs ++ ds) ≡ n
-    → Every (λ c. c .passes ≡ true) cs
+all-passed : (n : ℕ) (cs ds : List Check) → Every (λ c. c .number ≡ n → ⊥) cs → firstFailed (cs ++ ds) ≡ n → (k : ℕ)
+    → passesOf k cs ≡ true
 unfolding firstFailed
-all-passed n [] ds k e = tt
-all-passed n (c ∷ cs) ds k e = go (c .passes) refl (all-passed n cs ds (k .1))
+all-passed n [] ds a e k = refl
+all-passed n (c ∷ cs) ds a e k = go (c .passes) refl (λ f. all-passed n cs ds (a .1) f k) (eqb (c .number) k) refl
   where
-    go : (b : Bool) → c .passes ≡ b → (firstFailed (cs ++ ds) ≡ n → Every (λ d. d .passes ≡ true) cs)
-        → Every (λ d. d .passes ≡ true) (c ∷ cs)
-    go true p ih = (p, ih (sym (rw p) ∙ e))
-    go false p ih = absurd (k .0 (sym (rw p) ∙ e))
+    go : (b : Bool) → c .passes ≡ b → (firstFailed (cs ++ ds) ≡ n → passesOf k cs ≡ true)
+        → (t : Bool) → eqb (c .number) k ≡ t → passesOf k (c ∷ cs) ≡ true
+    go true p ih true t = rw t p
+    go true p ih false t = rw t (ih (sym (rw p) ∙ e))
+    go false p ih _ _ = absurd (a .0 (sym (rw p) ∙ e))
 
 -- a number below 10, or above the last of some checks, is none of theirs
 abbrev pub within : ℕ → Check → Bool
@@ -46,9 +52,9 @@ apart last n i (c ∷ cs) h =
     other (inl j) b e = omega (arith, leb-true 10 (c .number) (b .0))
     other (inr j) b e = omega (arith, leb-true (c .number) last (b .1))
 
--- the checks before the one that gave the number pass
+-- PASSED: each of the checks before the one that gave the number, by its own number
 pub passed : (last n : ℕ) (cs ds : List Check) → allPass (within last) cs ≡ true → (n < 10) ⊎ (last < n)
-    → firstFailed (cs ++ ds) ≡ n → Every (λ c. c .passes ≡ true) cs
+    → firstFailed (cs ++ ds) ≡ n → (k : ℕ) → passesOf k cs ≡ true
 passed last n cs ds h i e = all-passed n cs ds (apart last n i cs h) e
 
 still-fails : (cs ds : List Check) → (firstFailed cs ≡ 0 → ⊥) → firstFailed cs ≡ firstFailed (cs ++ ds)

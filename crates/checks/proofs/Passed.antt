@@ -47,10 +47,10 @@ pub sized : (rows cols : ℕ) (codes lent : List ℕ) (rest : List Check) (n : �
 unfolding check10 check11 check12
 sized rows cols codes lent rest n i e =
     let p = passed 12 n (gridChecks (gridOf rows cols codes) lent) rest refl i e in
-    let sides = and-both (isSide rows) (isSide cols) (p .0) in
+    let sides = and-both (isSide rows) (isSide cols) (p 10) in
     let row = side-small rows (sides .0) in
     let col = side-small cols (sides .1) in
-    let all = and-both (leb (rows * cols) (length codes)) (allPass (λ m. leb (rows * cols) m) lent) (p .1 .0) in
+    let all = and-both (leb (rows * cols) (length codes)) (allPass (λ m. leb (rows * cols) m) lent) (p 11) in
     record {
       grid = record {
         sides = record { rows-small = row .1; cols-small = col .1 };
@@ -115,7 +115,7 @@ module _ (g : Grid) (lent : List ℕ) where
     pub agreed : (rest : List Check) (n : ℕ) → (n < 10) ⊎ (14 < n) → firstFailed (agreedChecks g a lent ++ rest) ≡ n
         → agrees g a ≡ true
     unfolding check10 check11 check12 check14
-    agreed rest n i e = passed 14 n (agreedChecks g a lent) rest refl i e .1 .1 .1 .0
+    agreed rest n i e = passed 14 n (agreedChecks g a lent) rest refl i e 14
 
 module _ (c : Catchment) (lent : List ℕ) where
   -- what follows 17
@@ -131,10 +131,10 @@ module _ (c : Catchment) (lent : List ℕ) where
   listed rest n i e =
       let outlets = c .outlets in
       let p = passed 17 n (outletChecks c lent) rest refl i e in
-      let few = and-both (leb 1 (length outlets)) (leb (length outlets) 256) (p .1 .1 .1 .1 .0) in
-      let grounds = placed-every (c .grid) outlets (p .1 .1 .1 .1 .1 .0) in
+      let few = and-both (leb 1 (length outlets)) (leb (length outlets) 256) (p 15) in
+      let grounds = placed-every (c .grid) outlets (p 16) in
       record {
-        agreement = p .1 .1 .1 .0;
+        agreement = p 14;
         few-outlets = leb-true (length outlets) 256 (few .1);
         at-ground = every-at (λ o. ground (c .grid) o ≡ true) outlets grounds;
       }
@@ -157,4 +157,4 @@ module _ (c : Catchment) (lent : List ℕ) where
     pub in-list : firstFailed (placeChecks c place lent) ≡ 0 → place < length (c .outlets)
     unfolding check10 check11 check12 check14 check15 check16 check17 check18
     in-list e = ltb-true place (length (c .outlets))
-        (passed 18 0 (placeChecks c place lent) [] refl (inl (omega arith)) e .1 .1 .1 .1 .1 .1 .1 .0)
+        (passed 18 0 (placeChecks c place lent) [] refl (inl (omega arith)) e 18)
