@@ -65,9 +65,9 @@ uint32_t jb_draw(size_t rows, size_t cols, const uint8_t *codes, size_t codes_co
 uint32_t jb_read_sheet(const uint8_t *file, size_t file_count, uint8_t *codes, size_t codes_count, uint32_t *outlets,
                        size_t outlets_count, uint32_t shape[3]);
 
-/* 2, 3 (codes only), 5, 8, 7, 23. Writes the sheet; length is its bytes, 0 on refusal. */
+/* 2, 3 (codes only), 5, 8, 7, 23. Writes the sheet; size is how many bytes it has, 0 on refusal. */
 uint32_t jb_write_sheet(size_t rows, size_t cols, const uint8_t *codes, size_t codes_count, const uint32_t *outlets,
-                        size_t outlets_count, uint8_t *file, size_t file_count, uint32_t length[1]);
+                        size_t outlets_count, uint8_t *file, size_t file_count, uint32_t size[1]);
 
 #ifdef __cplusplus
 }

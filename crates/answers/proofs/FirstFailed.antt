@@ -1,17 +1,17 @@
 -- Laws of a list of checks: what the number of the first that fails tells of those before it.
 -- Assumes nothing.
-use mathlib.Core.Path.{_≡_, refl, sym, _∙_}
-use mathlib.Core.Bool.{Bool, true, false, cond, _&&_}
+use mathlib.Core.Path.{_≡_, refl, sym, ap, _∙_}
+use mathlib.Core.Bool.{Bool, true, false, cond, not, _&&_, true≢false}
 use mathlib.Core.Logic.{_⊎_, inl, inr}
 use mathlib.Core.List.{List, [], _∷_, _++_}
 use Prim.Native.Nat.{ℕ, zero, suc, _<_}
 use native.Mathlib.Omega.{arith}
 use lib.ListN.{length, getD}
 use lib.Dec.{eqb, leb}
-use borrow.Author.Tests.{leb-true}
-use Rattle.lists.specs.Lists.{Every}
-use Rattle.lists.proofs.Lists.{and-both}
-use Rattle.answers.specs.Checks.{Check, firstFailed, allPass}
+use borrow.Author.Tests.{leb-true, eq-eqb}
+use Rattle.lists.specs.Lists.{In, Every}
+use Rattle.lists.proofs.Lists.{and-both, every-map}
+use Rattle.answers.specs.Checks.{Check, check, firstFailed, allPass}
 
 -- an element of a list of which all pass
 pub all-at : (f : ℕ → Bool) (xs : List ℕ) → allPass f xs ≡ true → (i : ℕ) → i < length xs → f (getD xs i 0) ≡ true
@@ -84,12 +84,56 @@ goes-on (c ∷ cs) ds k e = go (c .passes) refl (goes-on cs ds (k .1))
     go true p ih = rw p (ih (rw p at e))
     go false p ih = absurd (k .0 (rw p at e))
 
--- a number that none of them has is not given
-pub never : (n : ℕ) → (n ≡ 0 → ⊥) → (cs : List Check) → Every (λ c. c .number ≡ n → ⊥) cs → firstFailed cs ≡ n → ⊥
+-- a check that passes does not give its number
+pub not-given : (n : ℕ) → (n ≡ 0 → ⊥) → (cs : List Check) → Every (λ c. c .number ≡ n → c .passes ≡ true) cs
+    → firstFailed cs ≡ n → ⊥
 unfolding firstFailed
-never n z [] k e = z (sym e)
-never n z (c ∷ cs) k e = go (c .passes) refl (never n z cs (k .1))
+not-given n z [] k e = z (sym e)
+not-given n z (c ∷ cs) k e = go (c .passes) refl (not-given n z cs (k .1))
   where
     go : (b : Bool) → c .passes ≡ b → (firstFailed cs ≡ n → ⊥) → ⊥
     go true p ih = ih (rw p at e)
-    go false p ih = k .0 (rw p at e)
+    go false p ih = true≢false (sym (k .0 (rw p at e)) ∙ p)
+
+-- a number that none of them has is not given
+pub never : (n : ℕ) → (n ≡ 0 → ⊥) → (cs : List Check) → Every (λ c. c .number ≡ n → ⊥) cs → firstFailed cs ≡ n → ⊥
+never n z cs k = not-given n z cs
+    (every-map (λ c. c .number ≡ n → ⊥) (λ c. c .number ≡ n → c .passes ≡ true) (λ c f e. absurd (f e)) cs k)
+
+-- by a computed test
+abbrev pub isOther : ℕ → Check → Bool
+isOther n c = not (eqb (c .number) n)
+
+pub others : (n : ℕ) (cs : List Check) → allPass (isOther n) cs ≡ true → Every (λ c. c .number ≡ n → ⊥) cs
+others n [] h = tt
+others n (c ∷ cs) h =
+    let p = and-both (isOther n c) (allPass (isOther n) cs) h in
+    (λ e. true≢false (sym (p .0) ∙ ap not (eq-eqb (c .number) n e)), others n cs (p .1))
+
+-- a number that none before the last has is the last one's, or 0
+pub last-given : (m n : ℕ) (b : Bool) (cs : List Check) → Every (λ c. c .number ≡ m → ⊥) cs
+    → firstFailed (cs ++ (check n b ∷ [])) ≡ m → cond b 0 n ≡ m
+unfolding firstFailed
+last-given m n b [] k e = e
+last-given m n b (c ∷ cs) k e = go (c .passes) refl (last-given m n b cs (k .1))
+  where
+    go : (p : Bool) → c .passes ≡ p → (firstFailed (cs ++ (check n b ∷ [])) ≡ m → cond b 0 n ≡ m) → cond b 0 n ≡ m
+    go true p ih = ih (rw p at e)
+    go false p ih = absurd (k .0 (rw p at e))
+
+-- ONLY THESE: where a check can fail only if its number is one of these, once those before it have passed, so is the
+-- number given
+abbrev pub FailsOnly : List ℕ → List Check → Type 0
+FailsOnly ns [] = Unit {0}
+FailsOnly ns (c ∷ cs) = ((c .passes ≡ true) ⊎ In (c .number) ns) × (c .passes ≡ true → FailsOnly ns cs)
+
+pub fails-only : (ns : List ℕ) → In 0 ns → (cs : List Check) → FailsOnly ns cs → In (firstFailed cs) ns
+unfolding firstFailed
+fails-only ns z [] f = z
+fails-only ns z (c ∷ cs) f = go (c .passes) refl (f .0) (λ p. fails-only ns z cs (f .1 p))
+  where
+    go : (b : Bool) → c .passes ≡ b → (c .passes ≡ true) ⊎ In (c .number) ns
+        → (c .passes ≡ true → In (firstFailed cs) ns) → In (cond (c .passes) (firstFailed cs) (c .number)) ns
+    go true p i ih = rw p (ih p)
+    go false p (inl e) ih = absurd (true≢false (sym e ∙ p))
+    go false p (inr i) ih = rw p i

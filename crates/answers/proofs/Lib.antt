@@ -1,3 +1,4 @@
 pub mod FirstFailed
 pub mod Accepted
+pub mod Accumulated
 pub mod MarkedCases

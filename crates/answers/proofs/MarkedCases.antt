@@ -32,7 +32,8 @@ use Rattle.answers.specs.Checks.{
 use Rattle.lists.specs.Slices.{overlaid}
 use Rattle.answers.specs.Entries.{accumulateNumber, accumulateLeaves, checkNumber}
 use Rattle.answers.specs.Entries.{subaccumulateNumber, subaccumulateLeaves}
-use Rattle.answers.specs.Tracings.{tracedWith, recursionNumber, stackNumber}
+use Rattle.answers.specs.Answers.{tracedWith}
+use Rattle.answers.specs.Tracings.{recursionNumber, stackNumber}
 use Rattle.answers.specs.Tracings.{leavesSubaccumulation, leavesStarts, leavesWork}
 use Rattle.answers.specs.Drawing.{drawNumber, drawLeaves, drawnPart}
 use Rattle.answers.specs.Marked.{marks, worked}

@@ -1,5 +1,7 @@
 pub mod Checks
 pub mod Entries
+pub mod Answers
 pub mod Tracings
+pub mod Seen
 pub mod Drawing
 pub mod Marked

@@ -5,37 +5,14 @@ use mathlib.Core.Bool.{Bool, cond}
 use mathlib.Core.List.{List, [], _∷_, _++_}
 use Prim.Native.Nat.{ℕ, _*_}
 use lib.ListN.{length, getD}
-use lib.Dec.{eqb}
-use Rattle.lengths.specs.declared.Length.{Length}
 use Rattle.lists.specs.Lists.{member}
 use Rattle.lists.specs.Slices.{overlaid, zeros}
 use Rattle.ground.specs.Accumulation.{subaccumulation, subaccumulations}
-use Rattle.search.specs.Tracing.{Tracing, longestLength, pathCount, startCells, tracing, numbersEach}
-use Rattle.answers.specs.declared.Answer.{Answer}
-use Rattle.answers.specs.declared.Answer.the-variants.{Found, NoPlace, Refused}
+use Rattle.search.specs.Tracing.{Tracing, startCells, tracing, numbersEach}
 use Rattle.answers.specs.declared.Traced.{Traced}
+use Rattle.answers.specs.Answers.{numberOf, tracedBy}
 use Rattle.answers.specs.Checks.{Check, firstFailed, check19, check20, check21}
 use Rattle.answers.specs.Entries.{Catchment, catchment, placeChecks}
-
--- the number of each kind of answer
-abbrev pub numberOf : Answer → ℕ
-numberOf (Found straight diagonal paths) = 0
-numberOf (NoPlace paths) = 21
-numberOf (Refused number) = number
-
-abbrev pub answered : ℕ → ℕ → Answer → Traced
-answered visited dropped answer = record { visited = visited; dropped = dropped; answer = answer }
-
--- the answer to each number: on 0 the length and how many paths there are; on 21 how many there are; else the number
--- itself. What was visited and dropped is told with the first two, and is 0 with the others
-unfoldable pub tracedWith : ℕ → Length → ℕ → ℕ → ℕ → Traced
-tracedWith number length paths visited dropped =
-    cond (eqb number 0) (answered visited dropped (Found (length .straight) (length .diagonal) paths))
-    (cond (eqb number 21) (answered visited dropped (NoPlace paths))
-    (answered 0 0 (Refused number)))
-
-abbrev pub tracedBy : ℕ → Tracing → Traced
-tracedBy number t = tracedWith number (longestLength t) (pathCount t) (t .visited) (t .dropped)
 
 -- ---- a call
 
@@ -89,8 +66,9 @@ module _ (q : Call) where
   unfoldable pub leavesWork : ℕ → List ℕ → List ℕ
   leavesWork number old = cond (member number (0 ∷ 21 ∷ [])) (overlaid (zeros (numbersEach * chosenCells)) old) old
 
--- the promise of either, once its number is known
+-- the promise of either, by the number of the first check that fails. It is the answer's
 pub record Traces (q : Call) (old : Lent) (number : ℕ) (r : Traced) (new : Lent) : Type 0 where
+  pub numbered : numberOf (r .answer) ≡ number
   pub answers : r ≡ tracedBy number (chosenTracing q)
   pub fills : new .subaccumulation ≡ leavesSubaccumulation q number (old .subaccumulation)
   pub lists : new .starts ≡ leavesStarts q number (old .starts)

@@ -158,26 +158,26 @@ module _ (g : Grid) where
       free : Agrees (inflows g) (ground g) (gathered (inflows g) noOutlet (cellCount g))
       free = free-agrees (next g) (inflows g) (ground g) (cellCount g) 𝓝 (free-ends h)
 
-  pub free-agree : ringFree g ≡ true → agrees g (accumulations g) ≡ true
-  unfolding agrees
-  free-agree h = below-all (λ x. eqb (getD (accumulations g) x 0) (balance g (accumulations g) x)) (cellCount g)
-      (λ x i. eq-eqb (getD (accumulations g) x 0) (balance g (accumulations g) x) (at x i (ground g x) refl))
-    where
-      same : (x : ℕ) → total (inflows g) noOutlet (accumulation g) (inflows g x) ≡ total (inflows g) noOutlet
-          (λ y. getD (accumulations g) y 0) (inflows g x)
-      same x = total-same (inflows g) noOutlet (accumulation g) (λ y. getD (accumulations g) y 0) (inflows g x)
-          (every-map (λ k. next g (k .cell) ≡ some (record { cell = x; step = k .step }))
-          (λ k. accumulation g (k .cell) ≡ getD (accumulations g) (k .cell) 0)
-          (λ k e. sym (grid-at (accumulation g) (cellCount g) (k .cell)
-          (𝓝 .bounded (k .cell) (𝓝 .solid (k .cell) (record { cell = x; step = k .step }) e)))) (inflows g x)
-          (𝓝 .sound x))
+  -- in a list of any length
+  module _ (h : ringFree g ≡ true) (a : List ℕ) (is : (x : ℕ) → x < cellCount g → getD a x 0 ≡ accumulation g x) where
+    pub free-agree : agrees g a ≡ true
+    unfolding agrees
+    free-agree = below-all (λ x. eqb (getD a x 0) (balance g a x)) (cellCount g)
+        (λ x i. eq-eqb (getD a x 0) (balance g a x) (at x i (ground g x) refl))
+      where
+        same : (x : ℕ)
+            → total (inflows g) noOutlet (accumulation g) (inflows g x)
+            ≡ total (inflows g) noOutlet (λ y. getD a y 0) (inflows g x)
+        same x = total-same (inflows g) noOutlet (accumulation g) (λ y. getD a y 0) (inflows g x)
+            (every-map (λ k. next g (k .cell) ≡ some (record { cell = x; step = k .step }))
+            (λ k. accumulation g (k .cell) ≡ getD a (k .cell) 0)
+            (λ k e. sym (is (k .cell)
+            (𝓝 .bounded (k .cell) (𝓝 .solid (k .cell) (record { cell = x; step = k .step }) e)))) (inflows g x)
+            (𝓝 .sound x))
 
-      at : (x : ℕ) → x < cellCount g → (b : Bool) → ground g x ≡ b
-          → getD (accumulations g) x 0 ≡ balance g (accumulations g) x
-      at x i true v = grid-at (accumulation g) (cellCount g) x i ∙ free-equation h x v ∙ ap suc (same x)
-          ∙ sym (balance-is (accumulations g) x v)
-      at x i false v = grid-at (accumulation g) (cellCount g) x i ∙ null-sub g [] x v
-          ∙ sym (null-balance g (accumulations g) x v)
+        at : (x : ℕ) → x < cellCount g → (b : Bool) → ground g x ≡ b → getD a x 0 ≡ balance g a x
+        at x i true v = is x i ∙ free-equation h x v ∙ ap suc (same x) ∙ sym (balance-is a x v)
+        at x i false v = is x i ∙ null-sub g [] x v ∙ sym (null-balance g a x v)
 
   -- so check 13 and check 14 ask the same: some list agrees exactly if the grid is free of rings
   pub agrees-free-of-rings : (a : List ℕ) → agrees g a ≡ true → ringFree g ≡ true

@@ -1,14 +1,14 @@
--- What the functions for C hand back in numbers.
+-- What the functions for C hand back in numbers. A place for results is written on every call: it holds values handed
+-- back, which are 0 on refusal where 01 says so, and is no lent slice that a refusal leaves as it was.
 -- Assumes nothing.
 use mathlib.Core.Path.{_≡_}
 use mathlib.Core.Bool.{Bool, not}
 use mathlib.Core.List.{List, [], _∷_}
 use Prim.Native.Nat.{ℕ}
 use lib.Dec.{eqb}
-use Rattle.answers.specs.declared.Answer.{Answer}
-use Rattle.answers.specs.declared.Answer.the-variants.{Found, NoPlace, Refused}
 use Rattle.answers.specs.declared.Traced.{Traced}
-use Rattle.answers.specs.Tracings.{numberOf, Call, Lent, TracesByRecursion, TracesByStack}
+use Rattle.answers.specs.Answers.{inNumbers}
+use Rattle.answers.specs.Tracings.{Call, Lent, TracesByRecursion, TracesByStack}
 use Rattle.answers.specs.Drawing.{Drawing, Draws}
 use Rattle.spelling.specs.declared.Sheet.{Sheet}
 use Rattle.spelling.specs.declared.Written.{Written}
@@ -20,29 +20,24 @@ use Rattle.spelling.specs.Writing.{Writes}
 abbrev pub nonZero : ℕ → Bool
 nonZero n = not (eqb n 0)
 
--- straight, diagonal, paths, visited, dropped: what an answer has no number for is 0
-unfoldable pub results : Answer → ℕ → ℕ → List ℕ
-results (Found straight diagonal paths) visited dropped = straight ∷ diagonal ∷ paths ∷ visited ∷ dropped ∷ []
-results (NoPlace paths) visited dropped = 0 ∷ 0 ∷ paths ∷ visited ∷ dropped ∷ []
-results (Refused number) visited dropped = 0 ∷ 0 ∷ 0 ∷ visited ∷ dropped ∷ []
-
--- the answer of a tracing as its number and five results
-pub record InNumbers (t : Traced) (number : ℕ) (five : List ℕ) : Type 0 where
-  pub is-number : number ≡ numberOf (t .answer)
-  pub is-results : five ≡ results (t .answer) (t .visited) (t .dropped)
+-- the answer of a tracing in numbers: its own, and straight, diagonal, paths, visited and dropped
+pub record InNumbers (t : Traced) (number : ℕ) (results : List ℕ) : Type 0 where
+  pub is-number : number ≡ inNumbers (t .answer) .number
+  pub is-results : let n = inNumbers (t .answer) in
+      results ≡ n .straight ∷ n .diagonal ∷ n .paths ∷ t .visited ∷ t .dropped ∷ []
 
 -- each function does what the entry does, and hands back in numbers what the entry answers
 
-pub record RecursionInC (q : Call) (old : Lent) (number : ℕ) (five : List ℕ) (new : Lent) : Type 0 where
+pub record RecursionInC (q : Call) (old : Lent) (number : ℕ) (results : List ℕ) (new : Lent) : Type 0 where
   pub answer : Traced
   pub traces : TracesByRecursion q old answer new
-  pub in-numbers : InNumbers answer number five
+  pub in-numbers : InNumbers answer number results
 
-pub record StackInC (q : Call) (old : Lent) (work : List ℕ) (number : ℕ) (five : List ℕ) (new : Lent) (space : List ℕ)
+pub record StackInC (q : Call) (old : Lent) (work : List ℕ) (number : ℕ) (results : List ℕ) (new : Lent) (space : List ℕ)
     : Type 0 where
   pub answer : Traced
   pub traces : TracesByStack q old work answer new space
-  pub in-numbers : InNumbers answer number five
+  pub in-numbers : InNumbers answer number results
 
 pub record DrawingInC (q : Drawing) (old : List ℕ) (number : ℕ) (drawn new : List ℕ) : Type 0 where
   pub count : ℕ
@@ -55,8 +50,8 @@ pub record ReadingInC (file codes outlets : List ℕ) (number : ℕ) (shape newC
   pub is-number : number ≡ sheet .number
   pub is-shape : shape ≡ sheet .rows ∷ sheet .cols ∷ sheet .outlets ∷ []
 
-pub record WritingInC (c : Content) (old : List ℕ) (number : ℕ) (length new : List ℕ) : Type 0 where
+pub record WritingInC (c : Content) (old : List ℕ) (number : ℕ) (size new : List ℕ) : Type 0 where
   pub written : Written
   pub writes : Writes c old written new
   pub is-number : number ≡ written .number
-  pub is-length : length ≡ written .length ∷ []
+  pub is-size : size ≡ written .length ∷ []

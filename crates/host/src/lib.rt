@@ -1,7 +1,7 @@
 // The library's entries for programs in C: each slice is a pointer and a count of elements, and each function returns
-// the refusal number. Slices of one call must not overlap.
-use answers::Answer;
+// the refusal number. Places for results are written on every call. Slices of one call must not overlap.
 use answers::Traced;
+use answers::in_numbers;
 ghost use mathlib.Core.Path.{_≡_};
 ghost use Rattle.ground.specs.Grid.{gridOf};
 ghost use Rattle.answers.specs.Entries.{catchment, Accumulates, checkNumber, Subaccumulates};
@@ -53,30 +53,13 @@ pub extern "C" fn jb_subaccumulate(
 }
 
 // Stores straight, diagonal, paths, visited and dropped, and hands back the number.
-fn in_numbers(t: Traced, results: &mut [u32; 5]) -> u32
+fn hand_back(t: Traced, results: &mut [u32; 5]) -> u32
     ensures { λ r. ⌜ InNumbers t r (now (results .exit)) ⌝ }
 {
-    let visited = t.visited;
-    let dropped = t.dropped;
     let answer = t.answer;
-    match answer {
-        Answer::Found {
-            straight,
-            diagonal,
-            paths,
-        } => {
-            *results = [straight, diagonal, paths, visited, dropped];
-            0
-        }
-        Answer::NoPlace { paths } => {
-            *results = [0, 0, paths, visited, dropped];
-            21
-        }
-        Answer::Refused { number } => {
-            *results = [0, 0, 0, visited, dropped];
-            number
-        }
-    }
+    let n = in_numbers(answer);
+    *results = [n.straight, n.diagonal, n.paths, t.visited, t.dropped];
+    n.number
 }
 
 #[no_mangle]
@@ -111,7 +94,7 @@ pub extern "C" fn jb_trace_by_stack(
         starts,
         work,
     );
-    in_numbers(t, results)
+    hand_back(t, results)
 }
 
 #[no_mangle]
@@ -144,7 +127,7 @@ pub extern "C" fn jb_trace_by_recursion(
         subaccumulation,
         starts,
     );
-    in_numbers(t, results)
+    hand_back(t, results)
 }
 
 #[no_mangle]
@@ -191,12 +174,12 @@ pub extern "C" fn jb_write_sheet(
     codes: &[u8],
     outlets: &[u32],
     file: &mut [u8],
-    length: &mut [u32; 1],
+    size: &mut [u32; 1],
 ) -> u32
     ensures { λ r. ⌜ WritingInC (content rows cols (now (codes .entry)) (now (outlets .entry))) (now (file .entry))
-        r (now (length .exit)) (now (file .exit)) ⌝ }
+        r (now (size .exit)) (now (file .exit)) ⌝ }
 {
     let written = writing::write(rows, cols, codes, outlets, file);
-    *length = [written.length];
+    *size = [written.length];
     written.number
 }

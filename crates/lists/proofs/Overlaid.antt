@@ -1,15 +1,15 @@
 -- Laws of what is left in a lent slice: new numbers in front, and the rest kept.
 -- Assumes nothing.
-use mathlib.Core.Path.{_≡_, sym, ap, _∙_, subst}
-use mathlib.Core.List.{List, [], _∷_, _++_}
+use mathlib.Core.Path.{_≡_, refl, sym, ap, _∙_, subst}
+use mathlib.Core.List.{List, [], _∷_, _++_, append-nil}
 use Prim.Native.Nat.{ℕ, suc, _+_, _-_, _≤_, _<_}
 use native.Mathlib.Nat.{add-zero}
 use native.Mathlib.Numerals.{add-one}
 use native.Mathlib.Omega.{arith}
 use native.Mathlib.Decide.{decLt}
-use lib.ListN.{length, getD, set, drop, length-append, length-take, length-drop, drop-of-length-le}
+use lib.ListN.{length, getD, set, take, drop, length-append, length-take, length-drop, drop-of-length-le}
 use lib.ListN.{length-replicate, getD-replicate, List·getD-append}
-use lib.Seq.{sets, sets-eq, drop-cons, take-all, take-append-le, ext-getD, getD-append-add, getD-drop}
+use lib.Seq.{sets, sets-eq, drop-cons, take-all, take-at, take-append-le, ext-getD, getD-append-add, getD-drop}
 use Rattle.lists.specs.Slices.{overlaid, zeros, Kept}
 
 -- what is left of a lent list is as long as it was
@@ -21,6 +21,20 @@ overlaid-length new old = simp (length-append, length-take, length-drop) (omega 
 pub overlaid-front : (new old : List ℕ) → length new ≤ length old → overlaid new old ≡ new ++ drop (length new) old
 unfolding overlaid
 overlaid-front new old h = ap (λ (l : List ℕ). l ++ drop (length new) old) (take-all (length old) new h)
+
+pub overlaid-taken : (new old : List ℕ) → length new ≤ length old → take (length new) (overlaid new old) ≡ new
+overlaid-taken new old h =
+    ap (take (length new)) (overlaid-front new old h) ∙ take-at new (drop (length new) old) (length new) refl
+
+pub overlaid-at : (new old : List ℕ) → length new ≤ length old → (x : ℕ) → x < length new
+    → getD (overlaid new old) x 0 ≡ getD new x 0
+overlaid-at new old h x i =
+    ap (λ (l : List ℕ). getD l x 0) (overlaid-front new old h) ∙ List·getD-append new (drop (length new) old) 0 x i
+
+-- where there is not, as many of the first stand there as there are places
+pub overlaid-short : (new old : List ℕ) → length old ≤ length new → overlaid new old ≡ take (length old) new
+unfolding overlaid
+overlaid-short new old h = rw (drop-of-length-le old h) (append-nil (take (length old) new))
 
 -- where there is room for none beyond the first of them, more change nothing
 pub overlaid-full : (new more old : List ℕ) → length old ≤ length new → overlaid (new ++ more) old ≡ overlaid new old

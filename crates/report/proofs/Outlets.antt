@@ -8,12 +8,12 @@ use lib.ListN.{take, getD}
 use Rattle.answers.specs.declared.Answer.the-variants.{Found, NoPlace, Refused}
 use Rattle.answers.specs.declared.Traced.{Traced}
 use Rattle.answers.specs.Entries.{Catchment, catchment}
-use Rattle.answers.specs.Tracings.{numberOf, tracedBy, chosenTracing, Lent, lent, Traces}
+use Rattle.answers.specs.Tracings.{Lent, lent, Traces}
 use Rattle.lines.specs.Line.{outletLine}
 use Rattle.lines.specs.Appending.{Appends}
 use Rattle.lines.proofs.Appending.{appends-both, appends-as}
-use Rattle.report.specs.Desk.{startedLent, callAt, stackNumberAt, tracedAt, leftAt, pathLines}
-use Rattle.report.specs.Desk.{answerLines, tracedLines, outletLines, outletsLines, numberAt}
+use Rattle.report.specs.Desk.{startedLent, callAt, numberAt, tracedAt, leftAt, pathLines}
+use Rattle.report.specs.Desk.{answerLines, tracedLines, outletLines, outletsLines}
 
 -- ---- one outlet
 
@@ -46,17 +46,11 @@ pub refused-lines : (cols place cell : ℕ) (t : Traced) (left : Lent) {number :
 unfolding answerLines
 refused-lines cols place cell t left e = rw e
 
--- what tracing answers has the number of the outlet
-pub number-is : (c : Catchment) (place : ℕ) {t : Traced}
-    → t ≡ tracedBy (stackNumberAt c place) (chosenTracing (callAt c place)) → numberOf (t .answer) ≡ numberAt c place
-unfolding numberAt tracedAt
-number-is c place e = ap (λ (t : Traced). numberOf (t .answer)) e
-
--- and with what it leaves makes the outlet's lines
+-- what tracing answers and leaves makes the outlet's lines
 pub outlet-is : (rows cols place : ℕ) (codes accumulation outlets : List ℕ) {wide at cell : ℕ} {t : Traced}
     {subaccumulation starts : List ℕ} → wide ≡ cols → at ≡ place → cell ≡ getD outlets place 0
     → Traces (callAt (catchment rows wide codes accumulation outlets) at) startedLent
-    (stackNumberAt (catchment rows wide codes accumulation outlets) at) t (lent subaccumulation starts)
+    (numberAt (catchment rows wide codes accumulation outlets) at) t (lent subaccumulation starts)
     → tracedLines cols place cell t (lent subaccumulation starts)
     ≡ outletLines (catchment rows cols codes accumulation outlets) place
 unfolding outletLines tracedAt leftAt

@@ -12,7 +12,8 @@ use Rattle.answers.specs.declared.Answer.{Answer}
 use Rattle.answers.specs.declared.Answer.the-variants.{Found, NoPlace, Refused}
 use Rattle.answers.specs.declared.Traced.{Traced}
 use Rattle.answers.specs.Entries.{Catchment, accumulateNumber, accumulateLeaves}
-use Rattle.answers.specs.Tracings.{Call, Lent, lent, chosen, chosenTracing, numberOf, tracedBy, stackNumber}
+use Rattle.answers.specs.Answers.{tracedBy}
+use Rattle.answers.specs.Tracings.{Call, Lent, lent, chosen, chosenTracing, stackNumber}
 use Rattle.answers.specs.Tracings.{leavesSubaccumulation, leavesStarts}
 use Rattle.lines.specs.Line.{catchmentLine, outletLine, pathLine, refusedLine}
 use Rattle.spelling.specs.Content.{Content}
@@ -35,17 +36,18 @@ module _ (c : Catchment) (place : ℕ) where
   abbrev pub callAt : Call
   callAt = record { catchment = c; place = place; dropping = true }
 
-  abbrev pub stackNumberAt : ℕ
-  stackNumberAt = stackNumber callAt startedLent startedWork
+  -- the number that tracing answers
+  abbrev pub numberAt : ℕ
+  numberAt = stackNumber callAt startedLent startedWork
 
   -- what tracing answers, and what it leaves
   unfoldable pub tracedAt : Traced
-  tracedAt = tracedBy stackNumberAt (chosenTracing callAt)
+  tracedAt = tracedBy numberAt (chosenTracing callAt)
 
   unfoldable pub leftAt : Lent
   leftAt = lent
-      (leavesSubaccumulation callAt stackNumberAt (startedLent .subaccumulation))
-      (leavesStarts callAt stackNumberAt (startedLent .starts))
+      (leavesSubaccumulation callAt numberAt (startedLent .subaccumulation))
+      (leavesStarts callAt numberAt (startedLent .starts))
 
 -- "a line per start, row and column"
 unfoldable pub pathLines : ℕ → List ℕ → List ℕ
@@ -83,17 +85,14 @@ module _ (c : Catchment) where
   outletsLines place zero = []
   outletsLines place (suc n) = outletLines place ++ outletsLines (place + 1) n
 
-  unfoldable pub numberAt : ℕ → ℕ
-  numberAt place = numberOf (tracedAt c place .answer)
-
   unfoldable pub numbersFrom : ℕ → ℕ → List ℕ
   numbersFrom place zero = []
-  numbersFrom place (suc n) = numberAt place ∷ numbersFrom (place + 1) n
+  numbersFrom place (suc n) = numberAt c place ∷ numbersFrom (place + 1) n
 
   -- the first refusal of a tracing. The first place is asked for even where there is none: "a sheet without outlets
   -- gives 15"
   unfoldable pub tracingNumber : ℕ
-  tracingNumber = firstNumber (numberAt 0 ∷ numbersFrom 0 (length (c .outlets)))
+  tracingNumber = firstNumber (numberAt c 0 ∷ numbersFrom 0 (length (c .outlets)))
 
 -- ---- the whole output
 

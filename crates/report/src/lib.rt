@@ -2,6 +2,7 @@
 use accumulation::accumulate;
 use answers::Answer;
 use answers::Traced;
+use answers::in_numbers;
 use lines::OutletLine;
 use lines::put_catchment;
 use lines::put_outlet;
@@ -17,7 +18,7 @@ ghost use mathlib.Core.Path.{_≡_};
 ghost use Prim.Native.Nat.{_≤_, _<_};
 ghost use lib.ListN.{length, take, getD};
 ghost use Rattle.answers.specs.Entries.{catchment};
-ghost use Rattle.answers.specs.Tracings.{numberOf, lent};
+ghost use Rattle.answers.specs.Tracings.{lent};
 ghost use Rattle.lines.specs.Appending.{Appends, Holds};
 ghost use Rattle.spelling.specs.Content.{content};
 ghost use Rattle.report.specs.Desk.{numberAt, numbersFrom, firstNumber, pathLines, tracedLines};
@@ -25,21 +26,6 @@ ghost use Rattle.report.specs.Desk.{outletLines, outletsLines, tracingNu
 
 // The numbers of working space, enough for a subwatershed of 4,096 cells.
 const WORKING: usize = NUMBERS_EACH * 4096;
-
-// The number of each kind of answer.
-fn number_of(answer: Answer) -> u32
-    ensures { λ r. ⌜ r ≡ numberOf answer ⌝ }
-{
-    match answer {
-        Answer::Found {
-            straight: _,
-            diagonal: _,
-            paths: _,
-        } => 0,
-        Answer::NoPlace { paths: _ } => 21,
-        Answer::Refused { number } => number,
-    }
-}
 
 // The number with which the outlet at a place is traced.
 fn number_at(
@@ -69,7 +55,8 @@ fn number_at(
         &mut work,
     );
     let answer = t.answer;
-    number_of(answer)
+    let n = in_numbers(answer);
+    n.number
 }
 
 // The first refusal among the outlets.

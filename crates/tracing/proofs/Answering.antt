@@ -5,7 +5,7 @@ use Prim.Native.Nat.{ℕ, _≤_, _<_}
 use borrow.Author.Tests.{le-leb, lt-leb}
 use Rattle.progress.specs.declared.Progress.{Progress}
 use Rattle.answers.specs.declared.Answer.the-variants.{Found, NoPlace}
-use Rattle.answers.specs.Tracings.{answered, tracedWith}
+use Rattle.answers.specs.Answers.{answered, tracedWith}
 use Rattle.tracing.specs.Answering.{answerWith}
 
 module _ (p : Progress) (room : ℕ) where

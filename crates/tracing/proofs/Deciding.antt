@@ -15,11 +15,13 @@ use Rattle.ground.specs.Accumulation.{subaccumulations}
 use Rattle.search.specs.Tracing.{Tracing, pathCount, startCells, numbersEach}
 use Rattle.answers.specs.declared.Traced.{Traced}
 use Rattle.answers.specs.Checks.{Check, firstFailed, check19, check20, check21}
-use Rattle.answers.specs.Tracings.{tracedWith, tracedBy, Call, Lent, lent, chosenCells, chosenTracing, callChecks}
+use Rattle.answers.specs.Answers.{tracedWith, tracedBy}
+use Rattle.answers.specs.Tracings.{Call, Lent, lent, chosenCells, chosenTracing, callChecks}
 use Rattle.answers.specs.Tracings.{Traces}
 use Rattle.answers.specs.Tracings.{leavesSubaccumulation, leavesStarts, leavesWork}
 use Rattle.answers.specs.Tracings.{recursionNumber, TracesByRecursion, stackNumber, TracesByStack}
 use Rattle.answers.proofs.FirstFailed.{handed-on}
+use Rattle.answers.proofs.Accepted.{number-told}
 use Rattle.checks.proofs.Passed.{beyond-place, place-at-most}
 use Rattle.tracing.specs.declared.Prepared.{Prepared}
 use Rattle.tracing.specs.Answering.{refusedWith, Lists, ListsAndClears}
@@ -46,6 +48,7 @@ module _ (q : Call) (old : Lent) where
       let e20 : n ≡ 20 → ⊥ = λ e. omega (arith, h, e) in
       let e21 : n ≡ 21 → ⊥ = λ e. omega (arith, h, e) in
       record {
+        numbered = refl;
         answers = rw (ne-eqb n 0 z, ne-eqb n 21 e21);
         fills = rw (
           ne-eqb 0 n (λ e. z (sym e)),
@@ -59,15 +62,15 @@ module _ (q : Call) (old : Lent) where
   -- after it,
   at-last : (n : ℕ) → (n ≡ 19) ⊎ (n ≡ 20) → Traces q old n (refusedWith n) (lent filled (old .starts))
   unfolding tracedWith leavesSubaccumulation leavesStarts
-  at-last n (inl e) = record { answers = rw e; fills = rw e; lists = rw e }
-  at-last n (inr e) = record { answers = rw e; fills = rw e; lists = rw e }
+  at-last n (inl e) = record { numbered = refl; answers = rw e; fills = rw e; lists = rw e }
+  at-last n (inr e) = record { numbered = refl; answers = rw e; fills = rw e; lists = rw e }
 
   -- or by the search
   searched : (b : Bool)
       → Traces q old (cond b 0 21) (tracedBy (cond b 0 21) t) (lent filled (overlaid (startCells t) (old .starts)))
   unfolding leavesSubaccumulation leavesStarts
-  searched true = record { answers = refl; fills = refl; lists = refl }
-  searched false = record { answers = refl; fills = refl; lists = refl }
+  searched true = record { numbered = number-told 0 t; answers = refl; fills = refl; lists = refl }
+  searched false = record { numbered = number-told 21 t; answers = refl; fills = refl; lists = refl }
 
   module _ {p : Prepared} {grid : List ℕ} (prep : Prepares (q .catchment) (q .place) (old .subaccumulation) p grid)
       (last : Check) where

@@ -13,7 +13,7 @@ use Rattle.ground.specs.Accumulation.{subaccumulation}
 use Rattle.search.specs.Tracing.{Tracing, pathCount, startCells, tracing, numbersEach}
 use Rattle.answers.specs.declared.Answer.the-variants.{Refused}
 use Rattle.answers.specs.declared.Traced.{Traced}
-use Rattle.answers.specs.Tracings.{answered, tracedWith, tracedBy}
+use Rattle.answers.specs.Answers.{answered, tracedWith, tracedBy}
 
 -- before the search nothing is visited or dropped
 abbrev pub refusedWith : ℕ → Traced
@@ -21,7 +21,7 @@ refusedWith number = answered 0 0 (Refused number)
 
 -- the answer where the list has room for so many: 0, or 21
 abbrev pub answerWith : Length → ℕ → ℕ → ℕ → ℕ → Traced
-answerWith length paths visited dropped room = tracedWith (cond (leb paths room) 0 21) length paths visited dropped
+answerWith len paths visited dropped room = tracedWith (cond (leb paths room) 0 21) len paths visited dropped
 
 abbrev pub answerFor : Tracing → ℕ → Traced
 answerFor t room = tracedBy (cond (leb (pathCount t) room) 0 21) t

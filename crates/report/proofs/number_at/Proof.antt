@@ -1,9 +1,6 @@
 -- `report::number_at` meets its contract.
 -- Assumes nothing.
-use mathlib.Core.Path.{_∙_}
 use borrow.Author.Needs.{needs}
-use Rattle.answers.specs.Entries.{catchment}
-use Rattle.report.proofs.Outlets.{number-is}
 use Rattle.report.proofs.number_at.Statement.{statement}
 use Rattle.report.proofs.number_at.Tie as tie
 
@@ -19,16 +16,13 @@ slice-aggregate-trace-by-stack-3 c = search needs
 trace-by-stack-requires : tie.Need-trace-by-stack-requires
 trace-by-stack-requires c κs = search needs
 
-number-of-requires : tie.Need-number-of-requires
-number-of-requires c κs = search needs
+in-numbers-requires : tie.Need-in-numbers-requires
+in-numbers-requires c κs = search needs
 
 returns : tie.Need-returns
 returns c =
     let t = c .before .before .before .before in
-    let a = t .before .before .before .before .before .before .before .args in
-    c .number-of .ensures
-    ∙ number-is (catchment (a .rows) (a .cols) (a .codes .now) (a .accumulation .now) (a .outlets .now)) (a .place)
-    (t .trace-by-stack .ensures .traces .answers)
+    rw (c .in-numbers .ensures) (t .trace-by-stack .ensures .traces .numbered)
 
 pub number-at-spec : {M : Type 1} → statement M
 number-at-spec =
@@ -38,5 +32,5 @@ number-at-spec =
     slice-aggregate-trace-by-stack-2
     slice-aggregate-trace-by-stack-3
     trace-by-stack-requires
-    number-of-requires
+    in-numbers-requires
     returns)
