@@ -14,7 +14,7 @@ unfolding digits
 one-digit k n h = rw (lt-ltb n 10 h)
 
 -- several
-several : (k n : ℕ) → 10 ≤ n → digits (suc k) n ≡ digits k (n / 10) ++ ((48 + n % 10) ∷ [])
+pub several : (k n : ℕ) → 10 ≤ n → digits (suc k) n ≡ digits k (n / 10) ++ ((48 + n % 10) ∷ [])
 unfolding digits
 several k n h = rw (le-ltb n 10 h)
 

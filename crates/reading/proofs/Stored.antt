@@ -3,7 +3,6 @@
 use mathlib.Core.Path.{_≡_, refl, sym, ap, _∙_}
 use mathlib.Core.List.{List}
 use Prim.Native.Nat.{ℕ, zero, suc, _+_, _*_, _≤_}
-use native.Mathlib.Nat.{mul-le-mul}
 use native.Mathlib.Omega.{arith}
 use lib.ListN.{length, drop, length-drop}
 use lib.Seq.{sets}
@@ -81,14 +80,13 @@ module _ (file grid list : List ℕ) (s : Sheet) (e : s ≡ readAnswer file (len
     pub storable : (rows cols count : ℕ) → rows ≡ s .rows → cols ≡ s .cols → count ≡ s .outlets
         → Storable file grid list s rows cols count
     storable rows cols count r c o =
-        let k : 4 + fileCols file ≤ 68 = omega (arith, a .cols-small) in
         let start : ℕ = 6 + fileRows file * (4 + fileCols file) in
         let rs : rows ≡ fileRows file = r ∙ rows-are in
         let cs : cols ≡ fileCols file = c ∙ cols-are in
         let os : count ≡ outletCount 257 (fileTail file) = o ∙ count-is in
         record {
           cols-small = rw cs (a .cols-small);
-          few-bytes = rw (rs, cs) (mul-le-mul (a .rows-small) k);
+          few-bytes = rw (rs, cs) (a .few-bytes);
           rows-fit = rw (rs, cs) (omega (arith, a .header, a .rows .fits, length-drop 6 file));
           has-grid = rw (rs, cs) (a .has-grid);
           outlets-fit = rw (rs, cs, os) (omega (arith, a .tail .long, length-drop start file));

@@ -2,3 +2,4 @@ pub mod Refusals
 pub mod Starts
 pub mod Outlets
 pub mod Whole
+pub mod FirstBytes

@@ -172,6 +172,7 @@ pub record Accepted (file : List ℕ) (grid list : ℕ) : Type 0 where
   pub rows-small : fileRows file ≤ 64
   pub some-cols : 1 ≤ fileCols file
   pub cols-small : fileCols file ≤ 64
+  pub few-bytes : fileRows file * (4 + fileCols file) ≤ 4352
   pub has-grid : fileRows file * fileCols file ≤ grid
   pub has-list : 256 ≤ list
   pub rows : RowsAre (fileRows file) (fileCols file) 0 (fileRows file) (drop 6 file)
@@ -200,6 +201,7 @@ accepted file grid list e =
       rows-small = s .rows-small;
       some-cols = s .some-cols;
       cols-small = s .cols-small;
+      few-bytes = s .few-bytes;
       has-grid = leb-true (R * C) grid (lent .0);
       has-list = leb-true 256 list (lent .1);
       rows = rows;
