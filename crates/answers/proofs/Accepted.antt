@@ -66,14 +66,14 @@ module _ (q : Call) where
   plain = tracing false grid outlets (chosen q)
 
   -- the promise of what is told
-  abbrev Promise : Type 0
+  abbrev pub Promise : Type 0
   Promise = Demand3 grid outlets anyCell (chosen q) (chosenTracing q) plain
 
   -- what the number tells of the search, and of the places of the list
-  record Reached (room number : ℕ) : Type 0 where
-    promise : (number ≡ 0) ⊎ (number ≡ 21) → Promise
-    enough : number ≡ 0 → pathCount (chosenTracing q) ≤ room
-    too-few : number ≡ 21 → room < pathCount (chosenTracing q)
+  pub record Reached (room number : ℕ) : Type 0 where
+    pub promise : (number ≡ 0) ⊎ (number ≡ 21) → Promise
+    pub enough : number ≡ 0 → pathCount (chosenTracing q) ≤ room
+    pub too-few : number ≡ 21 → room < pathCount (chosenTracing q)
 
   passed-promise : (old : List ℕ) → ((k : ℕ) → passesOf k (callChecks q old) ≡ true) → Promise
   unfolding check10 check11 check12 check14 check15 check16 check17 check18
@@ -114,7 +114,7 @@ module _ (q : Call) where
   unfolding recursionNumber check10 check11 check12 check14 check15 check16 check17 check18 check19
   recursion-reached old = reached old (check19 (chosenCells q)) refl (recursionNumber q old) refl
 
-  stack-reached : (old : Lent) (work : List ℕ) → Reached (length (old .starts)) (stackNumber q old work)
+  pub stack-reached : (old : Lent) (work : List ℕ) → Reached (length (old .starts)) (stackNumber q old work)
   unfolding stackNumber check10 check11 check12 check14 check15 check16 check17 check18 check20
   stack-reached old work = reached old (check20 (chosenCells q) work) refl (stackNumber q old work) refl
 

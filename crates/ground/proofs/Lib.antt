@@ -8,3 +8,4 @@ pub mod Subwatersheds
 pub mod Cells
 pub mod GridNetwork
 pub mod Ground
+pub mod AllOutlets

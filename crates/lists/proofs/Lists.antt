@@ -4,9 +4,10 @@ use mathlib.Core.Path.{_≡_, refl, sym, ap, ap₂, _∙_, subst}
 use mathlib.Core.Bool.{Bool, true, false, _&&_, _||_, true≢false}
 use mathlib.Core.Logic.{inl, inr}
 use mathlib.Core.List.{List, [], _∷_, _++_, map}
-use Prim.Native.Nat.{ℕ, zero, suc, _+_, _<_}
+use Prim.Native.Nat.{ℕ, zero, suc, _+_, _≤_, _<_}
 use native.Mathlib.Numerals.{add-one}
 use native.Mathlib.Omega.{arith}
+use lib.ListN.{length}
 use lib.Dec.{eqb}
 use borrow.Author.Tests.{eqb-true, eqb-false}
 use Rattle.lists.specs.Lists.{In, Every, Sorted, keepIf, only, allBelow}
@@ -31,6 +32,14 @@ keep-append false x xs ys = refl
 pub only-append : {A : Type 0} (f : A → Bool) (xs ys : List A) → only f (xs ++ ys) ≡ only f xs ++ only f ys
 only-append f [] ys = refl
 only-append f (x ∷ xs) ys = ap (keepIf (f x) x) (only-append f xs ys) ∙ keep-append (f x) x (only f xs) (only f ys)
+
+pub only-length : {A : Type 0} (f : A → Bool) (xs : List A) → length (only f xs) ≤ length xs
+only-length f [] = omega arith
+only-length f (x ∷ xs) = go (f x) (only-length f xs)
+  where
+    go : (b : Bool) → length (only f xs) ≤ length xs → length (keepIf b x (only f xs)) ≤ suc (length xs)
+    go true h = omega (arith, h)
+    go false h = omega (arith, h)
 
 pub only-none : {A : Type 0} (f : A → Bool) (xs : List A) → Every (λ x. f x ≡ false) xs → only f xs ≡ []
 only-none f [] h = refl

@@ -2,6 +2,7 @@
 -- Assumes nothing.
 use mathlib.Core.Path.{_≡_, refl, sym, _∙_}
 use mathlib.Core.Bool.{Bool, true, false, true≢false, or-true}
+use mathlib.Core.Logic.{inl, inr}
 use mathlib.Core.List.{List, [], _∷_}
 use Prim.Native.Nat.{ℕ, zero, suc, _+_, _≤_, _<_}
 use native.Mathlib.Numerals.{add-one}
@@ -10,13 +11,18 @@ use lib.ListN.{length, getD, drop, drop-of-length-le}
 use lib.Seq.{drop-cons}
 use lib.Dec.{eqb}
 use borrow.Author.Tests.{eqb-true, eq-eqb, ne-eqb}
-use Rattle.lists.specs.Lists.{member}
+use Rattle.lists.specs.Lists.{In, member}
 
 -- an element of a list stands in it
 pub member-at : (xs : List ℕ) (i : ℕ) → i < length xs → member (getD xs i 0) xs ≡ true
 member-at [] i l = absurd (omega arith)
 member-at (x ∷ xs) zero l = rw (eq-eqb x x refl)
 member-at (x ∷ xs) (suc i) l = rw (member-at xs i (omega arith)) (or-true (eqb x (getD xs i 0)))
+
+pub in-member : (x : ℕ) (xs : List ℕ) → In x xs → member x xs ≡ true
+in-member x [] i = absurd i
+in-member x (y ∷ xs) (inl e) = rw (eq-eqb y x (sym e))
+in-member x (y ∷ xs) (inr i) = rw (in-member x xs i) (or-true (eqb y x))
 
 -- a number of a list stands at a position of it
 pub record Position (x : ℕ) (xs : List ℕ) : Type 0 where

@@ -80,11 +80,15 @@ answer-number file grid list n e = go (eqb n 0) refl
     go true p = rw (e, p) (sym (eqb-true n 0 p))
     go false p = rw (e, p)
 
+pub accepted-number : (file : List ℕ) (grid list : ℕ) → readAnswer file grid list .number ≡ 0
+    → readNumber file grid list ≡ 0
+accepted-number file grid list good = sym (answer-number file grid list (readNumber file grid list) refl) ∙ good
+
 answer-cols : (file : List ℕ) (grid list : ℕ) → readAnswer file grid list .number ≡ 0
     → 0 < readAnswer file grid list .cols
 unfolding readAnswer
 answer-cols file grid list good =
-    let e = sym (answer-number file grid list (readNumber file grid list) refl) ∙ good in
+    let e = accepted-number file grid list good in
     rw e (omega (arith, accepted file grid list e .some-cols))
 
 module _ (file : List ℕ) {s : Sheet} {codes list : List ℕ} (r : Reads file (zeros 4096) (zeros 256) s codes list) where

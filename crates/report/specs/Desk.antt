@@ -125,3 +125,13 @@ deskText file =
     let sheet = readSheet file (zeros 4096) (zeros 256) in
     cond (eqb (sheet .number) 0) (sheetText (leftContent file (zeros 4096) (zeros 256)) (sheet .outlets))
     (refusedLine (sheet .number))
+
+-- ---- what the desk program lends
+
+-- for the bytes of a file
+abbrev pub fileBytes : ℕ
+fileBytes = 8192
+
+-- for its text
+abbrev pub textBytes : ℕ
+textBytes = 81920

@@ -1,30 +1,30 @@
 -- DEMAND 3 is proved: of the search with and without dropping, and from pending cells.
 -- Assumes nothing.
 use mathlib.Core.Path.{_≡_, refl, sym, ap, _∙_, subst}
-use mathlib.Core.Bool.{Bool, true, false}
+use mathlib.Core.Bool.{Bool, true, false, not}
 use mathlib.Core.Logic.{inl, inr, _↔_}
 use mathlib.Core.List.{List, [], _∷_, map}
 use mathlib.Core.Option.{some}
-use Prim.Native.Nat.{ℕ, _+_, _<_}
+use Prim.Native.Nat.{ℕ, _+_, _≤_, _<_}
 use native.Mathlib.Omega.{arith}
-use lib.ListN.{length, length-map}
+use lib.ListN.{length, length-map, length-append}
 use Rattle.lengths.specs.declared.Length.{Length}
 use Rattle.lengths.specs.Rule.{counts, isShorter}
 use Rattle.lengths.proofs.Laws.{square-same}
 use Rattle.lists.specs.Lists.{In, Sorted, only, member, howMany}
-use Rattle.ground.specs.Compass.{squares}
+use Rattle.ground.specs.Compass.{Dir, squares}
 use Rattle.ground.specs.Grid.{Grid, cellCount, ground, next, inflows}
 use Rattle.ground.specs.Walk.{At}
-use Rattle.ground.specs.Accumulation.{agrees}
+use Rattle.ground.specs.Accumulation.{agrees, subaccumulation}
 use Rattle.ground.specs.Subwatershed.{firstOutlet, isOutlet, InSubwatershed, inSubwatershed, HasLength, Before, Longest}
-use Rattle.ground.specs.Forest.{forest, everyCell, cellsFrom}
-use Rattle.lists.proofs.Lists.{every-in, every-is, sorted-with, sorted-over, same-sorted, in-only, only-in}
+use Rattle.ground.specs.Forest.{Forest, bare, tree, size, forest, everyCell, cellsAbove, cellsFrom}
+use Rattle.lists.proofs.Lists.{every-in, every-is, sorted-with, sorted-over, same-sorted, in-only, only-in, only-length}
 use Rattle.ground.proofs.Walks.{after-zero}
 use Rattle.ground.proofs.Network.{first-listed, cells-first}
 use Rattle.ground.proofs.Subwatersheds.{first-meets, true-belongs}
 use Rattle.ground.proofs.GridNetwork.{inflows-rise}
 use Rattle.ground.proofs.Ground.{𝓝, squares-laws, inside-test, sub-cells, sub-size, length-first}
-use Rattle.search.specs.Search.{longest, Rule, firstRule, searchFrom}
+use Rattle.search.specs.Search.{exceeded, longest, Rule, firstRule, searchFrom}
 use Rattle.search.specs.Tracing.{firstLength, tracingBy, tracing}
 use Rattle.search.specs.Demand.{anyCell, Demand3}
 use Rattle.search.proofs.Meeting.{longest-is, is-longest}
@@ -64,6 +64,18 @@ longest-length (x ∷ xs) h = some-length (longest squares (x ∷ xs)) (longest-
 only-all : (xs : List (At Length)) → only (λ x. true) xs ≡ xs
 only-all [] = refl
 only-all (x ∷ xs) = ap (λ l. x ∷ l) (only-all xs)
+
+-- as many cells as the forest has
+cells-length : (d : Length) (f : Forest Dir) → length (cellsAbove squares everyCell d f) ≡ size f
+cells-length d bare = refl
+cells-length d (tree c s above rest) =
+    let there = squares ._▹_ d s in
+    omega (
+      arith,
+      length-append (cellsAbove squares everyCell there above) (cellsAbove squares everyCell d rest),
+      cells-length there above,
+      cells-length d rest,
+    )
 
 module _ (g : Grid) (a : List ℕ) (h : agrees g a ≡ true) (outlets : List ℕ) (o : ℕ) (listed : member o outlets ≡ true)
     (v : ground g o ≡ true) where
@@ -177,6 +189,18 @@ module _ (g : Grid) (a : List ℕ) (h : agrees g a ≡ true) (outlets : List ℕ
         subst (HasLength g outlets o c) (first-len xs same-lengths b (p .1))
         (reaches-length b .1 ((start-of b (p .1)) .there))
 
+    -- no more than cells
+    few : length xs ≤ subaccumulation g outlets o
+    few =
+        let may-start = only (λ x. may (x .cell)) cells in
+        rw (lists, sub-size g a h outlets o v)
+        (omega (
+          arith,
+          only-length (λ x. not (exceeded squares may-start (x .len))) may-start,
+          only-length (λ (x : At Length). may (x .cell)) cells,
+          cells-length (counts 0 0) (forest g outlets o),
+        ))
+
     -- there is one if any cell may start
     some-start : (c : ℕ) → InSubwatershed g outlets o c → may c ≡ true → 0 < length xs
     unfolding Reaches inSubwatershed
@@ -216,6 +240,7 @@ module _ (g : Grid) (a : List ℕ) (h : agrees g a ≡ true) (outlets : List ℕ
       lengths = lengths may xs lists;
       number = sym (length-map xs (λ x. x .cell));
       not-none = some-start may xs lists c inside starts-there;
+      few = few may xs lists;
       counts = counted rule;
       cells = sub-cells g a h outlets o listed v;
       plain-counts = (omega (arith, counted plain, none-there), none-there);

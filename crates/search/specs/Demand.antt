@@ -4,7 +4,7 @@ use mathlib.Core.Path.{_≡_}
 use mathlib.Core.Bool.{Bool, true}
 use mathlib.Core.Logic.{_↔_}
 use mathlib.Core.List.{List}
-use Prim.Native.Nat.{ℕ, _+_, _<_}
+use Prim.Native.Nat.{ℕ, _+_, _≤_, _<_}
 use lib.ListN.{length}
 use Rattle.lists.specs.Lists.{In, Sorted, howMany}
 use Rattle.ground.specs.Grid.{Grid, cellCount}
@@ -32,6 +32,8 @@ pub record Demand3 (g : Grid) (outlets : List ℕ) (may : ℕ → Bool) (o : ℕ
   -- the number of paths is theirs, and there is one
   pub number : pathCount t ≡ length (startCells t)
   pub not-none : 0 < pathCount t
+  -- and no more of them than cells
+  pub few : pathCount t ≤ subaccumulation g outlets o
   -- every cell of the subwatershed is visited or dropped, and there are as many as the subaccumulation says
   pub counts : t .visited + t .dropped ≡ howMany (inSubwatershed g outlets o) (cellCount g)
   pub cells : howMany (inSubwatershed g outlets o) (cellCount g) ≡ subaccumulation g outlets o

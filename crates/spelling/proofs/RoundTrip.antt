@@ -1,6 +1,6 @@
 -- Reading and writing are inverse to each other.
 -- Assumes nothing.
-use mathlib.Core.Path.{_≡_, refl, sym, ap, _∙_}
+use mathlib.Core.Path.{_≡_, refl, sym, ap, _∙_, subst}
 use mathlib.Core.List.{List}
 use Prim.Native.Nat.{ℕ, _*_, _≤_}
 use native.Mathlib.Omega.{arith}
@@ -94,6 +94,9 @@ module _ (file grid list : List ℕ) (e : readNumber file (length grid) (length 
         few = b .few-outlets;
         inside = b .tail .inside;
       }
+
+  pub left-spellable : Spellable (leftContent file grid list)
+  left-spellable = subst Spellable (sym (left-is file grid list e)) again-spellable
 
   module _ (bytes : List ℕ) (h : length file ≤ length bytes) where
     again-accepted : writeNumber (left file grid list) bytes ≡ 0
