@@ -1,7 +1,7 @@
 -- DEMAND 3 at the entries: what a caller sees of every call that reaches the search, accepted or refused with 21 after
 -- all checks before it; and that the four ways are alike.
 -- Assumes nothing.
-use mathlib.Core.Path.{_≡_, refl, sym, ap, _∙_, subst}
+use mathlib.Core.Path.{_≡_, refl, sym, _∙_}
 use mathlib.Core.Bool.{Bool, true, false, cond, _&&_}
 use mathlib.Core.Logic.{_⊎_, inl, inr}
 use mathlib.Core.List.{List, [], _∷_, _++_}

@@ -1,12 +1,12 @@
 -- What accumulating leaves passes check 14, so that after it no other entry answers 14.
 -- Assumes nothing.
-use mathlib.Core.Path.{_≡_, refl, sym, _∙_}
+use mathlib.Core.Path.{_≡_, refl, _∙_}
 use mathlib.Core.Bool.{Bool, true, _&&_}
 use mathlib.Core.Logic.{inl}
 use mathlib.Core.List.{List, [], _∷_, _++_}
-use Prim.Native.Nat.{ℕ, _≤_, _<_}
+use Prim.Native.Nat.{ℕ}
 use native.Mathlib.Omega.{arith}
-use lib.ListN.{length, getD}
+use lib.ListN.{length}
 use lib.Dec.{leb}
 use borrow.Author.Tests.{leb-true}
 use Rattle.lists.specs.Slices.{overlaid}
@@ -14,7 +14,6 @@ use Rattle.lists.specs.Lists.{Every}
 use Rattle.lists.proofs.Lists.{and-both, every-map}
 use Rattle.lists.proofs.Overlaid.{overlaid-at}
 use Rattle.ground.specs.Grid.{Grid, cellCount}
-use Rattle.ground.specs.Walk.{ringFree}
 use Rattle.ground.specs.Accumulation.{accumulation, accumulations, agrees}
 use Rattle.ground.proofs.Ground.{grid-length, grid-at, free-agree}
 use Rattle.answers.specs.Checks.{Check, firstFailed, allPass}
@@ -22,8 +21,8 @@ use Rattle.answers.specs.Checks.{check10, check11, check12, check13, che
 use Rattle.answers.specs.Checks.{check19, check20, check21, check22, check23}
 use Rattle.answers.specs.Entries.{Catchment, gridChecks, agreedChecks, accumulateNumber, accumulateLeaves, checkNumber}
 use Rattle.answers.specs.Entries.{subaccumulateNumber}
-use Rattle.answers.specs.Tracings.{Call, Lent, recursionNumber, stackNumber}
-use Rattle.answers.specs.Drawing.{Drawing, drawNumber}
+use Rattle.answers.specs.Tracings.{Lent, recursionNumber, stackNumber}
+use Rattle.answers.specs.Drawing.{drawNumber}
 use Rattle.answers.proofs.FirstFailed.{passed, not-given, isOther, others}
 
 module _ (g : Grid) (lent : List ℕ) (accepted : accumulateNumber g lent ≡ 0) where

@@ -14,7 +14,11 @@ use Rattle.lists.proofs.Lists.{and-both, every-map, every-is}
 use Rattle.lists.proofs.Members.{in-member}
 use Rattle.answers.specs.Checks.{Check, check, firstFailed, allPass, different}
 
--- an element of a list of which all pass
+-- each element of a list of which all pass
+pub all-every : {A : Type 0} (f : A → Bool) (xs : List A) → allPass f xs ≡ true → Every (λ x. f x ≡ true) xs
+all-every f [] h = tt
+all-every f (x ∷ xs) h = let p = and-both (f x) (allPass f xs) h in (p .0, all-every f xs (p .1))
+
 pub all-at : (f : ℕ → Bool) (xs : List ℕ) → allPass f xs ≡ true → (i : ℕ) → i < length xs → f (getD xs i 0) ≡ true
 all-at f [] h i l = absurd (omega arith)
 all-at f (x ∷ xs) h zero l = and-both (f x) (allPass f xs) h .0

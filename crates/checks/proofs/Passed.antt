@@ -4,12 +4,12 @@ use mathlib.Core.Path.{_≡_, refl}
 use mathlib.Core.Bool.{true}
 use mathlib.Core.Logic.{_⊎_, inl, inr}
 use mathlib.Core.List.{List, [], _∷_, _++_}
-use Prim.Native.Nat.{ℕ, zero, suc, _*_, _≤_, _<_}
+use Prim.Native.Nat.{ℕ, _*_, _≤_, _<_}
 use native.Mathlib.Omega.{arith}
 use lib.ListN.{length, getD}
 use lib.Dec.{ltb, leb}
 use borrow.Author.Tests.{leb-true, ltb-true}
-use Rattle.lists.specs.Lists.{In, Every}
+use Rattle.lists.specs.Lists.{In}
 use Rattle.lists.proofs.Lists.{and-both}
 use Rattle.ground.specs.Grid.{Grid, gridOf, cellCount, ground}
 use Rattle.ground.specs.Accumulation.{agrees}
@@ -17,7 +17,7 @@ use Rattle.moves.specs.Lent.{LentGrid}
 use Rattle.answers.specs.Checks.{Check, firstFailed, allPass, isSide}
 use Rattle.answers.specs.Checks.{check10, check11, check12, check14, check15, check16, check17, check18}
 use Rattle.answers.specs.Entries.{Catchment, gridChecks, agreedChecks, outletChecks, placeChecks}
-use Rattle.answers.proofs.FirstFailed.{apart, passed, goes-on, never}
+use Rattle.answers.proofs.FirstFailed.{all-at, apart, passed, goes-on, never}
 use Rattle.checks.specs.Lent.{Lent, isPlaced}
 
 -- ---- the sizes
@@ -72,18 +72,6 @@ sized-lent a i s = record {
 
 -- ---- the outlets
 
-placed-every : (g : Grid) (outlets : List ℕ) → allPass (isPlaced g) outlets ≡ true
-    → Every (λ o. ground g o ≡ true) outlets
-placed-every g [] e = tt
-placed-every g (o ∷ os) e =
-    let h = and-both (isPlaced g o) (allPass (isPlaced g) os) e in
-    (and-both (ltb o (cellCount g)) (ground g o) (h .0) .1, placed-every g os (h .1))
-
-every-at : (P : ℕ → Type 0) (l : List ℕ) → Every P l → (j : ℕ) → j < length l → P (getD l j 0)
-every-at P [] h j i = absurd (omega arith)
-every-at P (x ∷ l) h zero i = h .0
-every-at P (x ∷ l) h (suc j) i = every-at P l (h .1) j (omega arith)
-
 -- the accumulation agrees, and the list has from 1 to 256 outlets, each a cell of ground and none twice
 pub record Listed (g : Grid) (accumulation outlets : List ℕ) : Type 0 where
   pub agreement : agrees g accumulation ≡ true
@@ -132,11 +120,11 @@ module _ (c : Catchment) (lent : List ℕ) where
       let outlets = c .outlets in
       let p = passed 17 n (outletChecks c lent) rest refl i e in
       let few = and-both (leb 1 (length outlets)) (leb (length outlets) 256) (p 15) in
-      let grounds = placed-every (c .grid) outlets (p 16) in
       record {
         agreement = p 14;
         few-outlets = leb-true (length outlets) 256 (few .1);
-        at-ground = every-at (λ o. ground (c .grid) o ≡ true) outlets grounds;
+        at-ground = λ j i. and-both (ltb (getD outlets j 0) (cellCount (c .grid))) (ground (c .grid) (getD outlets j 0))
+            (all-at (isPlaced (c .grid)) outlets (p 16) j i) .1;
       }
 
   module _ (place : ℕ) where

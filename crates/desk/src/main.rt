@@ -1,13 +1,15 @@
-// The desk program: a sheet from standard input, its answer to standard output. The file buffer is longer than any
-// sheet, and the text buffer than any answer.
+// The desk program: a sheet from standard input, its answer to standard output. No sheet has as many bytes as are read,
+// and no answer as many as are lent for it.
 use libc::STDIN_FILENO;
 use libc::STDOUT_FILENO;
+use report::FILE_BYTES;
+use report::TEXT_BYTES;
 use report::report;
 
 fn main() {
-    let mut file = [0u8; 8192];
+    let mut file = [0u8; FILE_BYTES];
     let n = io::read_full(STDIN_FILENO, &mut file);
-    let mut text = [0u8; 81920];
+    let mut text = [0u8; TEXT_BYTES];
     let k = report(&file[..n], &mut text);
     io::write_all(STDOUT_FILENO, &text[..k]);
 }

@@ -9,7 +9,7 @@ use native.Mathlib.Omega.{arith}
 use lib.Dec.{eqb}
 use borrow.Author.Tests.{eqb-true, ne-eqb}
 use Rattle.lengths.specs.declared.Length.{Length}
-use Rattle.lists.specs.Lists.{In, Every, Sorted, member, howMany, sumOf}
+use Rattle.lists.specs.Lists.{Every, Sorted, sumOf}
 use Rattle.lists.proofs.Lists.{every-is, every-in}
 use Rattle.lists.proofs.Members.{in-member}
 use Rattle.ground.specs.Compass.{Dir, squares}

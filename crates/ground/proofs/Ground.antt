@@ -22,7 +22,6 @@ use Rattle.ground.specs.Compass.{Dir, SE, stepOf, squares}
 use Rattle.ground.specs.Grid.{Grid, cellCount, ground, next, inflows}
 use Rattle.ground.specs.Walk.{after, ends, Ring, ringFree}
 use Rattle.ground.specs.Accumulation.{total, gathered, balance, agrees, subaccumulation, accumulation}
-use Rattle.ground.specs.Accumulation.{accumulations}
 use Rattle.ground.specs.Subwatershed.{firstOutlet, isOutlet, InSubwatershed, inSubwatershed, HasLength}
 use Rattle.ground.specs.Forest.{size, grow, forest}
 use Rattle.lists.proofs.Lists.{every-map, all-below, below-all, not-below}

@@ -8,7 +8,7 @@ use lib.ListN.{length, getD, set, drop, length-append}
 use lib.Seq.{drop-cons, set-append-seam, take-nil}
 use Rattle.lists.specs.Slices.{overlaid}
 use Rattle.lists.proofs.Overlaid.{overlaid-length, overlaid-front, overlaid-full}
-use Rattle.lines.specs.Appending.{Holds, Appends}
+use Rattle.lines.specs.Appending.{Holds, HoldsWhole, Appends}
 
 -- ---- one byte
 
@@ -74,3 +74,12 @@ whole {old = old} f = f .held [] old (record { counted = omega arith; laid = not
   where
     nothing : old ≡ overlaid [] old
     nothing = sym (ap (λ (l : List ℕ). l ++ old) (take-nil (length old)))
+
+-- with room for all of it, a held text is held whole
+pub holds-whole : {text lent now : List ℕ} {at : ℕ} → length text ≤ length lent → Holds text lent at now
+    → HoldsWhole text lent at now
+holds-whole {text} {lent} h held = record {
+  counted = omega (arith, held .counted);
+  fits = omega (arith, held .counted, room held);
+  laid = held .laid ∙ overlaid-front text lent h;
+}

@@ -1,6 +1,6 @@
 -- The numbers with which the desk refuses a sheet that was read.
 -- Assumes nothing.
-use mathlib.Core.Path.{_≡_, refl, sym, ap, _∙_}
+use mathlib.Core.Path.{_≡_, refl, _∙_}
 use mathlib.Core.Bool.{Bool, true, false, _&&_}
 use mathlib.Core.Logic.{_⊎_, inl, inr}
 use mathlib.Core.List.{List, [], _∷_, _++_}
@@ -9,7 +9,7 @@ use native.Mathlib.Nat.{mul-le-mul}
 use native.Mathlib.Omega.{arith}
 use lib.ListN.{length, getD, length-replicate}
 use lib.Dec.{eqb, ltb, leb}
-use borrow.Author.Tests.{eqb-true, ltb-true, leb-true, lt-ltb, le-leb}
+use borrow.Author.Tests.{eqb-true, leb-true, lt-ltb, le-leb}
 use Rattle.lists.specs.Lists.{In, Every, allBelow}
 use Rattle.lists.specs.Slices.{zeros}
 use Rattle.lists.proofs.Lists.{and-both, every-map}
@@ -20,7 +20,7 @@ use Rattle.ground.specs.Accumulation.{agrees, accumulations}
 use Rattle.ground.proofs.Ground.{sub-at-most}
 use Rattle.search.specs.Tracing.{pathCount, numbersEach}
 use Rattle.search.proofs.Demand3.{demand3}
-use Rattle.answers.specs.Checks.{Check, firstFailed, allPass, isCode, check10, check11, check12, check13, check14}
+use Rattle.answers.specs.Checks.{Check, allPass, isCode, check10, check11, check12, check13, check14}
 use Rattle.answers.specs.Checks.{check15, check16, check17, check18, check20, check21}
 use Rattle.answers.specs.Entries.{Catchment, gridChecks, accumulateNumber, accumulateLeaves}
 use Rattle.answers.specs.Tracings.{chosen, chosenCells, chosenTracing, stackNumber}
@@ -49,7 +49,7 @@ first-among (n ∷ ns) h = go (eqb n 0) refl (first-among ns (h .1))
     go true e ih = rw e ih
     go false e ih = rw e (h .0)
 
-pub lent-places : length (zeros 4096) ≡ 4096
+lent-places : length (zeros 4096) ≡ 4096
 lent-places = length-replicate {A = ℕ} 4096 0
 
 all-reach : (n : ℕ) (lent : List ℕ) → Every (λ m. n ≤ m) lent → allPass (leb n) lent ≡ true
@@ -78,8 +78,10 @@ module _ (s : Content) (w : Spellable s) where
       )
 
       places : allPass (leb (cellCount g)) (length (s .codes) ∷ lent) ≡ true
-      places = all-reach (cellCount g) (length (s .codes) ∷ lent) (w .grid .has-codes,
-          every-map (λ n. 4096 ≤ n) (λ n. cellCount g ≤ n) (λ n k. omega (arith, k, few-cells)) lent h)
+      places = all-reach (cellCount g) (length (s .codes) ∷ lent) (
+        w .grid .has-codes,
+        every-map (λ n. 4096 ≤ n) (λ n. cellCount g ≤ n) (λ n k. omega (arith, k, few-cells)) lent h,
+      )
 
       codes : allBelow (λ x. isCode (getD (s .codes) x 0)) (cellCount g) ≡ true
       codes = all-first isCode (s .codes) (cellCount g) (w .grid .has-codes) ∙ w .grid .are-codes
@@ -141,20 +143,35 @@ module _ (s : Content) (w : Spellable s) where
       has-list : place < length (s .outlets) → ground g o ≡ true
           → leb (pathCount (chosenTracing (callAt c place))) (length (zeros 4096)) ≡ true
       has-list h v = le-leb (pathCount (chosenTracing (callAt c place))) (length (zeros 4096))
-          (omega (arith, few v, lent-places,
-          demand3 g (c .accumulation) agreed (s .outlets) o (member-at (s .outlets) place h) v true .few))
+          (omega (
+            arith,
+            few v,
+            lent-places,
+            demand3 g (c .accumulation) agreed (s .outlets) o (member-at (s .outlets) place h) v true .few,
+          ))
 
       -- 14, 18, 20 and 21 pass
       later-passes : FailsOnly numbers later
       unfolding check14 check15 check16 check17 check18 check20 check21
-      later-passes =
-          (inl agreed,
-          λ p14. (inr (inr (inr (inl refl))),
-          λ p15. (inr (inr (inr (inr (inl refl)))),
-          λ p16. (inr (inr (inr (inr (inr (inl refl))))),
-          λ p17. (inl (lt-ltb place (length (s .outlets)) (inside p15)),
-          λ p18. (inl (has-work (solid (inside p15) p16)),
-          λ p20. (inl (has-list (inside p15) (solid (inside p15) p16)), λ p21. tt)))))))
+      later-passes = (
+        inl agreed,
+        λ p14. (
+          inr (inr (inr (inl refl))),
+          λ p15. (
+            inr (inr (inr (inr (inl refl)))),
+            λ p16. (
+              inr (inr (inr (inr (inr (inl refl))))),
+              λ p17. (
+                inl (lt-ltb place (length (s .outlets)) (inside p15)),
+                λ p18. (
+                  inl (has-work (solid (inside p15) p16)),
+                  λ p20. (inl (has-list (inside p15) (solid (inside p15) p16)), λ p21. tt),
+                ),
+              ),
+            ),
+          ),
+        ),
+      )
 
       place-among : In (numberAt c place) numbers
       unfolding stackNumber

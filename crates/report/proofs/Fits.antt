@@ -1,29 +1,29 @@
 -- THE DESK LOSES NO LINE: what it prints for any file fits the bytes that it lends.
 -- Assumes nothing.
-use mathlib.Core.Path.{_≡_, refl, sym, ap, _∙_}
+use mathlib.Core.Path.{_≡_, refl, ap, _∙_}
 use mathlib.Core.Bool.{Bool, true, false, _&&_}
-use mathlib.Core.Logic.{inl, inr}
+use mathlib.Core.Logic.{inl}
 use mathlib.Core.List.{List, [], _∷_, _++_, map}
 use Prim.Native.Nat.{ℕ, zero, suc, _+_, _*_, _/_, _%_, _≤_, _<_}
 use native.Mathlib.Nat.{mod-lt, div-lt-iff-lt-mul}
 use native.Mathlib.Omega.{arith}
-use lib.ListN.{length, take, drop, getD, length-append, drop-of-length-le}
+use lib.ListN.{length, take, drop, getD, length-append}
 use lib.Seq.{drop-cons}
 use lib.Dec.{eqb, ltb}
 use borrow.Author.Tests.{eqb-true, eqb-false, ltb-true}
-use Rattle.lists.specs.Lists.{Every, Sorted, sumOf}
+use Rattle.lists.specs.Lists.{Every, sumOf}
 use Rattle.lists.specs.Slices.{zeros, overlaid}
-use Rattle.lists.proofs.Lists.{and-both, every-is}
+use Rattle.lists.proofs.Lists.{and-both, every-is, every-map}
 use Rattle.lists.proofs.Overlaid.{overlaid-taken}
 use Rattle.ground.specs.Grid.{Grid, cellCount, ground}
 use Rattle.ground.specs.Accumulation.{subaccumulation}
 use Rattle.ground.proofs.AllOutlets.{outlets-cells, inside-bounded}
 use Rattle.search.specs.Tracing.{Tracing, pathCount, startCells}
-use Rattle.answers.specs.Checks.{allPass, check10, check11, check12, check14, check15, check16, check17, check18}
+use Rattle.answers.specs.Checks.{check10, check11, check12, check14, check15, check16, check17, check18}
 use Rattle.answers.specs.Entries.{Catchment, accumulateNumber}
 use Rattle.answers.specs.Answers.{tracedWith}
 use Rattle.answers.specs.Tracings.{chosen, chosenTracing, callChecks, stackNumber, leavesStarts}
-use Rattle.answers.proofs.FirstFailed.{all-at, different-sorted, passesOf, passed}
+use Rattle.answers.proofs.FirstFailed.{all-every, all-at, different-sorted, passesOf, passed}
 use Rattle.answers.proofs.Accepted.{Promise, stack-reached}
 use Rattle.lines.specs.declared.OutletLine.{OutletLine}
 use Rattle.lines.specs.Line.{catchmentLine, outletLine, pathLine, refusedLine}
@@ -36,7 +36,7 @@ use Rattle.report.specs.Desk.{firstNumber, startedLent, startedWork, cal
 use Rattle.report.specs.Desk.{pathLines, answerLines, outletLines, outletsLines, tracingNumber}
 use Rattle.report.specs.Desk.{sheetGrid, sheetCatchment, sheetNumber, sheetText, deskText, textBytes}
 use Rattle.report.proofs.Whole.{accepted-number}
-use Rattle.report.proofs.AfterReading.{lent-places, few-cells, agreed}
+use Rattle.report.proofs.AfterReading.{few-cells, agreed}
 
 -- ---- the lines of an outlet and its starts
 
@@ -149,13 +149,6 @@ module _ (s : Content) (w : Spellable s) (free : accumulateNumber (sheetGrid s) 
       ))
 
   -- the outlets are different cells of the grid
-  grounds : (os : List ℕ) → allPass (λ o. ltb o (cellCount g) && ground g o) os ≡ true
-      → Every (λ o. ground g o ≡ true) os
-  grounds [] h = tt
-  grounds (o ∷ os) h =
-      let p = and-both (ltb o (cellCount g) && ground g o) (allPass (λ o. ltb o (cellCount g) && ground g o) os) h in
-      (and-both (ltb o (cellCount g)) (ground g o) (p .0) .1, grounds os (p .1))
-
   all-fit : tracingNumber c ≡ 0 → length (outletsLines c 0 (length (s .outlets))) ≤ 139 * 256 + 11 * 4096
   unfolding tracingNumber check10 check11 check12 check14 check15 check16 check17 check18
   all-fit z =
@@ -165,7 +158,9 @@ module _ (s : Content) (w : Spellable s) (free : accumulateNumber (sheetGrid s) 
         arith,
         outlets-fit 0 (length (s .outlets)) (omega arith) (p .1),
         outlets-cells g (s .outlets) (c .accumulation) (agreed s w free) (different-sorted (s .outlets) (q 17))
-            (grounds (s .outlets) (q 16)),
+            (every-map (λ o. (ltb o (cellCount g) && ground g o) ≡ true) (λ o. ground g o ≡ true)
+            (λ o k. and-both (ltb o (cellCount g)) (ground g o) k .1) (s .outlets)
+            (all-every (λ o. ltb o (cellCount g) && ground g o) (s .outlets) (q 16))),
         few-cells s w,
         w .few,
       )

@@ -19,10 +19,15 @@ ghost use Prim.Native.Nat.{_≤_, _<_};
 ghost use lib.ListN.{length, take, getD};
 ghost use Rattle.answers.specs.Entries.{catchment};
 ghost use Rattle.answers.specs.Tracings.{lent};
-ghost use Rattle.lines.specs.Appending.{Appends, Holds};
+ghost use Rattle.lines.specs.Appending.{Appends, Holds, HoldsWhole};
 ghost use Rattle.spelling.specs.Content.{content};
 ghost use Rattle.report.specs.Desk.{numberAt, numbersFrom, firstNumber, pathLines, tracedLines};
 ghost use Rattle.report.specs.Desk.{outletLines, outletsLines, tracingNumber, sheetText, deskText};
+
+// The bytes that the desk program lends for a file, which are more than the longest sheet has, and for its text.
+pub const FILE_BYTES: usize = 8192;
+
+pub const TEXT_BYTES: usize = 81920;
 
 // The numbers of working space, enough for a subwatershed of 4,096 cells.
 const WORKING: usize = NUMBERS_EACH * 4096;
@@ -261,7 +266,7 @@ fn report_sheet(text: &mut [u8], sheet: Sheet, codes: &[u8], outlets: &[u32]) ->
 }
 
 // What the desk prints for a file, put into lent bytes, as much of it as there is room for; how much is handed back.
-pub fn report(file: &[u8], text: &mut [u8]) -> usize
+fn put_report(file: &[u8], text: &mut [u8]) -> usize
     ensures { λ r. ⌜ Holds (deskText (now (file .entry))) (now (text .entry)) r (now (text .exit)) ⌝ }
 {
     let mut codes = [0u8; 4096];
@@ -271,4 +276,12 @@ pub fn report(file: &[u8], text: &mut [u8]) -> usize
         return put_refused(text, 0, sheet.number);
     }
     report_sheet(text, sheet, &codes, first_of(&outlets, sheet.outlets))
+}
+
+// What the desk prints for a file. The lent bytes have room for any file's text, so that no line is ever lost; how many
+// of them hold it is handed back.
+pub fn report(file: &[u8], text: &mut [u8; TEXT_BYTES]) -> usize
+    ensures { λ r. ⌜ HoldsWhole (deskText (now (file .entry))) (now (text .entry)) r (now (text .exit)) ⌝ }
+{
+    put_report(file, text)
 }

@@ -18,19 +18,16 @@ array-share-prefix-file c = search needs
 slice-aggregate-report : tie.Need-slice-aggregate-report
 slice-aggregate-report c = search needs
 
-slice-aggregate-report-2 : tie.Need-slice-aggregate-report-2
-slice-aggregate-report-2 c = search needs
-
 report-requires : tie.Need-report-requires
 report-requires c κs = search needs
 
 array-share-prefix-text : tie.Need-array-share-prefix-text
-array-share-prefix-text c = search needs
+array-share-prefix-text c = omega (arith, c .report .ensures .fits)
 
 slice-aggregate-write-all : tie.Need-slice-aggregate-write-all
 slice-aggregate-write-all c =
-    let r = c .before .before .report in
-    omega (arith, length-take (r .result) (r .last .1 .0), r .ensures .counted, r .kept .1 .0)
+    let r = c .before .report in
+    omega (arith, length-take (r .result) (r .last .1 .0), r .ensures .fits)
 
 write-all-requires : tie.Need-write-all-requires
 write-all-requires c κs = search needs
@@ -46,7 +43,6 @@ main-spec =
     read-full-requires
     array-share-prefix-file
     slice-aggregate-report
-    slice-aggregate-report-2
     report-requires
     array-share-prefix-text
     slice-aggregate-write-all
