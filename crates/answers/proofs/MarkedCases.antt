@@ -36,7 +36,8 @@ use Rattle.answers.specs.Answers.{tracedWith}
 use Rattle.answers.specs.Tracings.{recursionNumber, stackNumber}
 use Rattle.answers.specs.Tracings.{leavesSubaccumulation, leavesStarts, leavesWork}
 use Rattle.answers.specs.Drawing.{drawNumber, drawLeaves, drawnPart}
-use Rattle.answers.specs.Marked.{marks, worked}
+use Rattle.answers.specs.MarkedRows.{worked}
+use Rattle.answers.specs.Marked.{marks}
 
 pub marked : map worked marks ≡ marks
 unfolding compared ruled signOf isShorter sumOf dirOf codeAt neighbour next inflowRecord inflows ringFree balance

@@ -4,4 +4,5 @@ pub mod Answers
 pub mod Tracings
 pub mod Seen
 pub mod Drawing
+pub mod MarkedRows
 pub mod Marked
