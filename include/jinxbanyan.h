@@ -2,7 +2,8 @@
 
    Each function returns the refusal number: 0 is acceptance. A slice is a pointer and a count of elements; slices of one
    call must not overlap, and a pointer must not be null even where the count is 0. Refusals change nothing lent, but where
-   a comment says otherwise, and places beyond those an answer needs keep their contents.
+   a comment says otherwise, and places beyond those an answer needs keep their contents. A place for results (results,
+   drawn, shape, size) is no such slice: it is written on every call, with values handed back.
 
    10 rows or columns not 1 to 4,096       17 an outlet twice
    11 a lent grid too short                18 the place is beyond the list of outlets

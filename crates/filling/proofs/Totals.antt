@@ -18,7 +18,7 @@ use Rattle.filling.specs.Packed.{oneEach}
 
 -- a set with one cell more
 abbrev pub also : (ℕ → Bool) → ℕ → ℕ → Bool
-also set y c = set c || eqb c y
+also these y c = these c || eqb c y
 
 -- a function changed at one place
 abbrev pub putAt : (ℕ → ℕ) → ℕ → ℕ → ℕ → ℕ
@@ -30,11 +30,11 @@ put-same f z v x h = rw (eq-eqb x z h)
 pub put-other : (f : ℕ → ℕ) (z v x : ℕ) → (x ≡ z → ⊥) → putAt f z v x ≡ f x
 put-other f z v x h = rw (ne-eqb x z h)
 
-pub also-same : (set : ℕ → Bool) (y c : ℕ) → c ≡ y → also set y c ≡ true
-also-same set y c h = rw (eq-eqb c y h) (or-true (set c))
+pub also-same : (these : ℕ → Bool) (y c : ℕ) → c ≡ y → also these y c ≡ true
+also-same these y c h = rw (eq-eqb c y h) (or-true (these c))
 
-pub also-other : (set : ℕ → Bool) (y c : ℕ) → (c ≡ y → ⊥) → also set y c ≡ set c
-also-other set y c h = rw (ne-eqb c y h) (or-false (set c))
+pub also-other : (these : ℕ → Bool) (y c : ℕ) → (c ≡ y → ⊥) → also these y c ≡ these c
+also-other these y c h = rw (ne-eqb c y h) (or-false (these c))
 
 module _ {S : Type 0} (ups : ℕ → List (Link S)) where
   -- two sums that skip the same, and are the same where they do not

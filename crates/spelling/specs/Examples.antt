@@ -4,7 +4,7 @@
 use mathlib.Core.List.{List, [], _∷_, _++_}
 use Prim.Native.Nat.{ℕ, _-_, _^_}
 use lib.ListN.{length, take, drop, set, replicate}
-use Rattle.answers.specs.Marked.{nines}
+use Rattle.answers.specs.MarkedRows.{nines}
 use Rattle.spelling.specs.declared.Sheet.{Sheet}
 use Rattle.spelling.specs.declared.Written.{Written}
 use Rattle.spelling.specs.Content.{Content, content}
