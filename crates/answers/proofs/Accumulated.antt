@@ -19,8 +19,8 @@ use Rattle.ground.proofs.Ground.{grid-length, grid-at, free-agree}
 use Rattle.answers.specs.Checks.{Check, firstFailed, allPass}
 use Rattle.answers.specs.Checks.{check10, check11, check12, check13, check14, check15, check16, check17, check18}
 use Rattle.answers.specs.Checks.{check19, check20, check21, check22, check23}
-use Rattle.answers.specs.Entries.{Catchment, gridChecks, agreedChecks, accumulateNumber, accumulateLeaves, checkNumber}
-use Rattle.answers.specs.Entries.{subaccumulateNumber}
+use Rattle.answers.specs.Entries.{Catchment, gridChecks, agreedChecks, accumulateNumber, accumulateLeaves}
+use Rattle.answers.specs.Entries.{checkNumber, subaccumulateNumber}
 use Rattle.answers.specs.Tracings.{Lent, recursionNumber, stackNumber}
 use Rattle.answers.specs.Drawing.{drawNumber}
 use Rattle.answers.proofs.FirstFailed.{passed, not-given, isOther, others}

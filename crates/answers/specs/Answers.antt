@@ -14,8 +14,8 @@ abbrev pub numbers : ℕ → ℕ → ℕ → ℕ → Numbers
 numbers number straight diagonal paths =
     record { number = number; straight = straight; diagonal = diagonal; paths = paths }
 
--- 01: "found with its length and number of paths, no place with the true number of paths, or another refusal". The number
--- and the values of each case; what a case has no value for is 0
+-- 01: "found with its length and number of paths, no place with the true number of paths, or another refusal". The
+-- number and the values of each case; what a case has no value for is 0
 abbrev pub inNumbers : Answer → Numbers
 inNumbers (Found straight diagonal paths) = numbers 0 straight diagonal paths
 inNumbers (NoPlace paths) = numbers 21 0 0 paths

@@ -30,8 +30,8 @@ module _ (q : Call) (r : Traced) where
   pub record SearchCounts : Type 0 where
     pub visited : r .visited ≡ chosenTracing q .visited
     pub dropped : r .dropped ≡ chosenTracing q .dropped
-    pub all-cells : r .visited + r .dropped
-        ≡ howMany (inSubwatershed (q .catchment .grid) (q .catchment .outlets) (chosen q)) (cellCount (q .catchment .grid))
+    pub all-cells : let c = q .catchment in
+        r .visited + r .dropped ≡ howMany (inSubwatershed (c .grid) (c .outlets) (chosen q)) (cellCount (c .grid))
 
   module _ (starts : List ℕ) where
     -- on 0: found, with the length of each listed cell's walk, and as many paths as there are cells listed
@@ -62,7 +62,7 @@ module _ (q : Call) (r : Traced) where
 
 -- ---- four ways: by either engine, with and without dropping
 
--- what was lent aside, and what either entry left
+-- one of the two entries was called with what is lent here, and answered and left this
 pub data Way (q : Call) (r : Traced) (new : Lent) : Type 0 where
   by-recursion : (old : Lent) → TracesByRecursion q old r new → Way q r new
   by-stack : (old : Lent) (work space : List ℕ) → TracesByStack q old work r new space → Way q r new

@@ -33,8 +33,8 @@ pub record RecursionInC (q : Call) (old : Lent) (number : ℕ) (results : List �
   pub traces : TracesByRecursion q old answer new
   pub in-numbers : InNumbers answer number results
 
-pub record StackInC (q : Call) (old : Lent) (work : List ℕ) (number : ℕ) (results : List ℕ) (new : Lent) (space : List ℕ)
-    : Type 0 where
+pub record StackInC (q : Call) (old : Lent) (work : List ℕ) (number : ℕ) (results : List ℕ) (new : Lent)
+    (space : List ℕ) : Type 0 where
   pub answer : Traced
   pub traces : TracesByStack q old work answer new space
   pub in-numbers : InNumbers answer number results

@@ -24,10 +24,10 @@ use Rattle.report.specs.Desk.{numbersFrom, tracingNumber, sheetNumber, s
 use Rattle.report.specs.Example.{exampleText}
 
 pub example : deskText sample ≡ exampleText
-unfolding sumOf overlaid compared ruled signOf isShorter dirOf codeAt neighbour next inflowRecord inflows ringFree balance
-    agrees subaccumulation forest tracingBy firstFailed isCode check10 check11 check12 check13 check14 check15 check16
-    check17 check18 check20 check21 accumulateNumber accumulateLeaves tracedWith stackNumber leavesSubaccumulation
-    leavesStarts digits catchmentLine outletLine pathLine numberAt isRecord codesFrom outletCount outletsFrom tailChecks
-    rowsChecks readNumber readAnswer readLeavesCodes readLeavesOutlets firstNumber tracedAt leftAt pathLines answerLines
-    outletLines outletsLines numbersFrom tracingNumber sheetNumber sheetText deskText
+unfolding sumOf overlaid compared ruled signOf isShorter dirOf codeAt neighbour next inflowRecord inflows ringFree
+    balance agrees subaccumulation forest tracingBy firstFailed isCode check10 check11 check12 check13 check14 check15
+    check16 check17 check18 check20 check21 accumulateNumber accumulateLeaves tracedWith stackNumber
+    leavesSubaccumulation leavesStarts digits catchmentLine outletLine pathLine numberAt isRecord codesFrom outletCount
+    outletsFrom tailChecks rowsChecks readNumber readAnswer readLeavesCodes readLeavesOutlets firstNumber tracedAt leftAt
+    pathLines answerLines outletLines outletsLines numbersFrom tracingNumber sheetNumber sheetText deskText
 example = refl

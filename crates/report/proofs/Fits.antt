@@ -32,8 +32,8 @@ use Rattle.spelling.specs.Content.{Content}
 use Rattle.spelling.specs.Reading.{readSheet, leftContent}
 use Rattle.spelling.proofs.Writable.{Spellable}
 use Rattle.spelling.proofs.RoundTrip.{left-spellable}
-use Rattle.report.specs.Desk.{firstNumber, startedLent, startedWork, callAt, numberAt, tracedAt, leftAt, numbersFrom}
-use Rattle.report.specs.Desk.{pathLines, answerLines, outletLines, outletsLines, tracingNumber}
+use Rattle.report.specs.Desk.{firstNumber, startedLent, startedWork, callAt, numberAt, tracedAt, leftAt}
+use Rattle.report.specs.Desk.{numbersFrom, pathLines, answerLines, outletLines, outletsLines, tracingNumber}
 use Rattle.report.specs.Desk.{sheetGrid, sheetCatchment, sheetNumber, sheetText, deskText, textBytes}
 use Rattle.report.proofs.Whole.{accepted-number}
 use Rattle.report.proofs.AfterReading.{few-cells, agreed}
