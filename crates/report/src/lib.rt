@@ -17,17 +17,25 @@ use tracing::trace_by_stack;
 ghost use mathlib.Core.Path.{_≡_};
 ghost use Prim.Native.Nat.{_≤_, _<_};
 ghost use lib.ListN.{length, take, getD};
+ghost use Rattle.lists.specs.Slices.{zeros};
 ghost use Rattle.answers.specs.Entries.{catchment};
 ghost use Rattle.answers.specs.Tracings.{lent};
 ghost use Rattle.lines.specs.Appending.{Appends, Holds, HoldsWhole};
 ghost use Rattle.spelling.specs.Content.{content};
 ghost use Rattle.report.specs.Desk.{numberAt, numbersFrom, firstNumber, pathLines, tracedLines};
-ghost use Rattle.report.specs.Desk.{outletLines, outletsLines, tracingNumber, sheetText, deskText};
+ghost use Rattle.report.specs.Desk.{outletLines, outletsLines, tracingNumber, sheetText, deskText, fileBytes};
 
 // The bytes that the desk program lends for a file, which are more than the longest sheet has, and for its text.
-pub const FILE_BYTES: usize = 8192;
+const FILE_BYTES: usize = 8192;
 
 pub const TEXT_BYTES: usize = 81920;
+
+// The desk's place for the bytes of a file, started at zero.
+pub fn file_place() -> [u8; FILE_BYTES]
+    ensures { λ r. ⌜ r ≡ zeros fileBytes ⌝ }
+{
+    [0; FILE_BYTES]
+}
 
 // The numbers of working space, enough for a subwatershed of 4,096 cells.
 const WORKING: usize = NUMBERS_EACH * 4096;

@@ -6,6 +6,9 @@ use borrow.Author.Needs.{needs}
 use Rattle.desk.proofs.main.Statement.{statement}
 use Rattle.desk.proofs.main.Tie as tie
 
+file-place-requires : tie.Need-file-place-requires
+file-place-requires c κs = search needs
+
 slice-aggregate-read-full : tie.Need-slice-aggregate-read-full
 slice-aggregate-read-full c = search needs
 
@@ -39,6 +42,7 @@ pub main-spec : {M : Type 1} → statement M
 main-spec =
     tie.close
     (tie.spec
+    file-place-requires
     slice-aggregate-read-full
     read-full-requires
     array-share-prefix-file
