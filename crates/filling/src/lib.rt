@@ -2,58 +2,67 @@
 //
 // While at work a place holds flag * 2^30 + waiting * 2^25 + partial. The flag is 1 at an outlet, `waiting` is how many
 // inflows are not yet passed down, and `partial` is 1 and the sum of those that are. Two parameters serve the contracts
-// alone: `outlets` in all that count, look and go down, since the flags tell the outlets, and `looked`.
+// alone: `outlets` in all that look and go down, since the flags tell the outlets, and `looked`.
+use counting::INFLOW;
+use counting::count_all;
+use downstream::Downstream;
+use downstream::downstream_of;
+use downstream::offsets;
 use lists::clear;
 use lists::index_of;
 use moves::Cell;
-use moves::Spot;
-use moves::flows_to;
 ghost use mathlib.Core.Path.{_≡_};
-ghost use Prim.Native.Nat.{ℕ, _+_, _*_, _≤_, _<_};
-ghost use lib.ListN.{length, getD};
+ghost use Prim.Native.Nat.{_+_, _*_, _≤_, _<_};
+ghost use lib.ListN.{length};
 ghost use Rattle.lists.specs.Lists.{allBelow};
 ghost use Rattle.lists.specs.Slices.{Kept};
 ghost use Rattle.ground.specs.Grid.{gridOf};
 ghost use Rattle.filling.specs.Filling.{Fillable, FillableAt, Within, Flagged, Stripped};
-ghost use Rattle.filling.specs.Filling.{Counted, Looked, Down, Passed, isSettled, Fills};
+ghost use Rattle.filling.specs.Filling.{Looked, Down, Passed, isSettled, Fills};
 
-// The flag of an outlet, and one inflow that is waited for.
+// The flag of an outlet.
 const FLAG: u32 = 1073741824;
 
-const INFLOW: u32 = 33554432;
-
-// A cell counts itself, and is counted by the cell that it flows to, unless it is an outlet.
-fn count_cell(
-    rows: usize,
-    cols: usize,
-    codes: &[u8],
-    outlets: &[u32],
-    words: &mut [u32],
-    row: usize,
-    col: usize,
-)
-    requires { ⌜ FillableAt rows cols (now codes) (now outlets) (now words) row col ⌝ }
-    requires { ⌜ Counted (gridOf rows cols (now codes)) (now outlets) (now words) (row * cols + col) ⌝ }
-    ensures counts { λ _. ⌜ Counted (gridOf rows cols (now (codes .entry))) (now (outlets .entry)) (now (words .exit))
-        (row * cols + col + 1) ⌝ }
+// Flags the outlet at a place of the list, once: the cell that it flows to no longer waits for it.
+fn flag_at(rows: usize, cols: usize, codes: &[u8], outlets: &[u32], words: &mut [u32], place: usize)
+    requires { ⌜ Fillable rows cols (now codes) (now outlets) (now words) × (place < length (now outlets)) ⌝ }
+    requires { ⌜ Flagged (gridOf rows cols (now codes)) (now outlets) (now words) place ⌝ }
+    ensures flags { λ _. ⌜ Flagged (gridOf rows cols (now (codes .entry))) (now (outlets .entry)) (now (words .exit))
+        (place + 1) ⌝ }
     ensures keeps { λ _. ⌜ Kept (rows * cols) (now (words .entry)) (now (words .exit)) ⌝ }
 {
-    let at = row * cols + col;
-    if codes[at] == 0 {
+    let at = index_of(outlets[place]);
+    let word = words[at];
+    if word >= FLAG {
         return;
     }
-    let own = words[at];
-    words[at] = own + 1;
-    if own >= FLAG {
-        return;
-    }
-    match flows_to(rows, cols, codes, row, col) {
-        Spot::Off => return,
-        Spot::On { row: r, col: c } => {
-            let to = r * cols + c;
+    words[at] = word + FLAG;
+    let steps = offsets(cols);
+    match downstream_of(rows, cols, codes, &steps, at / cols, at % cols, at) {
+        Downstream::End => return,
+        Downstream::To {
+            row: _,
+            col: _,
+            at: to,
+        } => {
             let below = words[to];
-            words[to] = below + INFLOW;
+            words[to] = below - INFLOW;
         }
+    }
+}
+
+// Flags the outlets in words that are counted.
+fn flag(rows: usize, cols: usize, codes: &[u8], outlets: &[u32], words: &mut [u32])
+    requires { ⌜ Fillable rows cols (now codes) (now outlets) (now words) ⌝ }
+    requires { ⌜ Flagged (gridOf rows cols (now codes)) (now outlets) (now words) 0 ⌝ }
+    ensures flags { λ _. ⌜ Flagged (gridOf rows cols (now (codes .entry))) (now (outlets .entry)) (now (words .exit))
+        (length (now (outlets .entry))) ⌝ }
+    ensures keeps { λ _. ⌜ Kept (rows * cols) (now (words .entry)) (now (words .exit)) ⌝ }
+{
+    let mut j: usize = 0;
+    while j < outlets.len() {
+        flag_at(rows, cols, codes, outlets, words, j);
+        j += 1;
     }
 }
 
@@ -63,32 +72,40 @@ fn pass_down(
     cols: usize,
     codes: &[u8],
     outlets: &[u32],
+    steps: &[usize; 8],
     words: &mut [u32],
     row: usize,
     col: usize,
+    at: usize,
     looked: usize,
-) -> Spot
-    requires { ⌜ FillableAt rows cols (now codes) (now outlets) (now words) row col ⌝ }
-    requires { ⌜ Down (gridOf rows cols (now codes)) (now outlets) (now words) looked (row * cols + col) ⌝ }
+) -> Downstream
+    requires { ⌜ FillableAt rows cols (now codes) (now outlets) (now steps) (now words) row col at ⌝ }
+    requires { ⌜ Down (gridOf rows cols (now codes)) (now outlets) (now words) looked at ⌝ }
     ensures { λ r. ⌜ Passed (gridOf rows cols (now (codes .entry))) (now (outlets .entry)) looked (now (words .entry))
         (now (words .exit)) r ⌝ }
 {
-    let at = row * cols + col;
     let word = words[at];
     if word >= FLAG {
-        return Spot::Off;
+        return Downstream::End;
     }
-    match flows_to(rows, cols, codes, row, col) {
-        Spot::Off => Spot::Off,
-        Spot::On { row: r, col: c } => {
-            let to = r * cols + c;
+    match downstream_of(rows, cols, codes, steps, row, col, at) {
+        Downstream::End => Downstream::End,
+        Downstream::To {
+            row: r,
+            col: c,
+            at: to,
+        } => {
             let below = words[to];
             let sum = below + word - INFLOW;
             words[to] = sum;
             if sum % FLAG >= INFLOW {
-                return Spot::Off;
+                return Downstream::End;
             }
-            Spot::On { row: r, col: c }
+            Downstream::To {
+                row: r,
+                col: c,
+                at: to,
+            }
         }
     }
 }
@@ -99,24 +116,29 @@ fn walk_down(
     cols: usize,
     codes: &[u8],
     outlets: &[u32],
+    steps: &[usize; 8],
     words: &mut [u32],
     row: usize,
     col: usize,
+    at: usize,
 )
-    requires { ⌜ FillableAt rows cols (now codes) (now outlets) (now words) row col ⌝ }
-    requires { ⌜ Down (gridOf rows cols (now codes)) (now outlets) (now words) (row * cols + col + 1)
-        (row * cols + col) ⌝ }
+    requires { ⌜ FillableAt rows cols (now codes) (now outlets) (now steps) (now words) row col at ⌝ }
+    requires { ⌜ Down (gridOf rows cols (now codes)) (now outlets) (now words) (at + 1) at ⌝ }
     ensures looks { λ _. ⌜ Looked (gridOf rows cols (now (codes .entry))) (now (outlets .entry)) (now (words .exit))
-        (row * cols + col + 1) ⌝ }
+        (at + 1) ⌝ }
     ensures keeps { λ _. ⌜ Kept (rows * cols) (now (words .entry)) (now (words .exit)) ⌝ }
 {
-    let looked = row * cols + col + 1;
-    let mut s = Spot::On { row, col };
+    let looked = at + 1;
+    let mut s = Downstream::To { row, col, at };
     loop {
         match s {
-            Spot::Off => return,
-            Spot::On { row: r, col: c } => {
-                s = pass_down(rows, cols, codes, outlets, words, r, c, looked);
+            Downstream::End => return,
+            Downstream::To {
+                row: r,
+                col: c,
+                at: x,
+            } => {
+                s = pass_down(rows, cols, codes, outlets, steps, words, r, c, x, looked);
             }
         }
     }
@@ -128,37 +150,20 @@ fn look_at(
     cols: usize,
     codes: &[u8],
     outlets: &[u32],
+    steps: &[usize; 8],
     words: &mut [u32],
     row: usize,
     col: usize,
+    at: usize,
 )
-    requires { ⌜ FillableAt rows cols (now codes) (now outlets) (now words) row col ⌝ }
-    requires { ⌜ Looked (gridOf rows cols (now codes)) (now outlets) (now words) (row * cols + col) ⌝ }
+    requires { ⌜ FillableAt rows cols (now codes) (now outlets) (now steps) (now words) row col at ⌝ }
+    requires { ⌜ Looked (gridOf rows cols (now codes)) (now outlets) (now words) at ⌝ }
     ensures looks { λ _. ⌜ Looked (gridOf rows cols (now (codes .entry))) (now (outlets .entry)) (now (words .exit))
-        (row * cols + col + 1) ⌝ }
+        (at + 1) ⌝ }
     ensures keeps { λ _. ⌜ Kept (rows * cols) (now (words .entry)) (now (words .exit)) ⌝ }
 {
-    let at = row * cols + col;
     if words[at] % FLAG == 1 {
-        walk_down(rows, cols, codes, outlets, words, row, col);
-    }
-}
-
-// Counts every cell.
-fn count_all(rows: usize, cols: usize, codes: &[u8], outlets: &[u32], words: &mut [u32])
-    requires { ⌜ Fillable rows cols (now codes) (now outlets) (now words) ⌝ }
-    requires { ⌜ Counted (gridOf rows cols (now codes)) (now outlets) (now words) 0 ⌝ }
-    ensures counts { λ _. ⌜ Counted (gridOf rows cols (now (codes .entry))) (now (outlets .entry)) (now (words .exit))
-        (rows * cols) ⌝ }
-    ensures keeps { λ _. ⌜ Kept (rows * cols) (now (words .entry)) (now (words .exit)) ⌝ }
-{
-    let n = rows * cols;
-    let mut p = Cell { row: 0, col: 0 };
-    let mut at: usize = 0;
-    while at < n {
-        count_cell(rows, cols, codes, outlets, words, p.row, p.col);
-        p = p.next(cols);
-        at += 1;
+        walk_down(rows, cols, codes, outlets, steps, words, row, col, at);
     }
 }
 
@@ -171,27 +176,13 @@ fn look_at_all(rows: usize, cols: usize, codes: &[u8], outlets: &[u32], words: &
     ensures keeps { λ _. ⌜ Kept (rows * cols) (now (words .entry)) (now (words .exit)) ⌝ }
 {
     let n = rows * cols;
+    let steps = offsets(cols);
     let mut p = Cell { row: 0, col: 0 };
     let mut at: usize = 0;
     while at < n {
-        look_at(rows, cols, codes, outlets, words, p.row, p.col);
+        look_at(rows, cols, codes, outlets, &steps, words, p.row, p.col, at);
         p = p.next(cols);
         at += 1;
-    }
-}
-
-// Flags the outlets in n places that are clear.
-fn flag(n: usize, outlets: &[u32], words: &mut [u32])
-    requires { ⌜ (n ≤ length (now words)) × Within n (now outlets)
-        × ((x : ℕ) → x < n → getD (now words) x 0 ≡ 0) ⌝ }
-    ensures { λ _. ⌜ Flagged n (now (outlets .entry)) (length (now (outlets .entry))) (now (words .entry))
-        (now (words .exit)) ⌝ }
-{
-    let mut j: usize = 0;
-    while j < outlets.len() {
-        let at = index_of(outlets[j]);
-        words[at] = FLAG;
-        j += 1;
     }
 }
 
@@ -210,19 +201,21 @@ fn strip(n: usize, outlets: &[u32], words: &mut [u32])
     }
 }
 
-// Does no cell wait any more?
+// Does no cell wait any more? All are looked at, several at once.
 fn settled(n: usize, words: &[u32]) -> bool
     requires { ⌜ n ≤ length (now words) ⌝ }
     ensures { λ r. ⌜ r ≡ allBelow (isSettled (now (words .entry))) n ⌝ }
 {
+    let mut yes = true;
     let mut i: usize = 0;
     while i < n {
-        if words[i] % FLAG >= INFLOW {
-            return false;
-        }
+        let word = words[i] % FLAG;
         i += 1;
+        if word >= INFLOW {
+            yes = false;
+        }
     }
-    true
+    yes
 }
 
 // Fills the first rows * cols places of a lent grid with the subaccumulation, which is the accumulation where there
@@ -239,9 +232,8 @@ pub fn fill(
         r (now (subaccumulation .exit)) ⌝ }
 {
     let n = rows * cols;
-    clear(n, subaccumulation);
-    flag(n, outlets, subaccumulation);
-    count_all(rows, cols, codes, outlets, subaccumulation);
+    count_all(rows, cols, codes, subaccumulation);
+    flag(rows, cols, codes, outlets, subaccumulation);
     look_at_all(rows, cols, codes, outlets, subaccumulation);
     if !settled(n, subaccumulation) {
         clear(n, subaccumulation);

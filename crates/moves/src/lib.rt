@@ -70,7 +70,7 @@ pub enum Spot {
 
 // The cell that a change of row and of column, each plus one, leads to. Row and column are tested apart, so that no
 // step wraps around a border.
-fn spot_at(rows: usize, cols: usize, row: usize, col: usize, down: usize, right: usize) -> Spot
+pub fn spot_at(rows: usize, cols: usize, row: usize, col: usize, down: usize, right: usize) -> Spot
     requires { ⌜ InReach rows cols row col down right ⌝ }
     ensures { λ r. ⌜ Spotted rows cols row col down right r ⌝ }
 {
@@ -131,18 +131,6 @@ fn flows_by(rows: usize, cols: usize, codes: &[u8], row: usize, col: usize, by: 
             }
             Spot::On { row: r, col: c }
         }
-    }
-}
-
-// The cell that a cell flows to. A walk ends where the code leads nowhere, off the grid or to a null cell.
-pub fn flows_to(rows: usize, cols: usize, codes: &[u8], row: usize, col: usize) -> Spot
-    requires { ⌜ OnCell rows cols (now codes) row col ⌝ }
-    ensures { λ r. ⌜ FlowsTo (gridOf rows cols (now (codes .entry))) (row * cols + col) r ⌝ }
-{
-    let at = row * cols + col;
-    match lead_of(codes[at]) {
-        Lead::Nowhere => Spot::Off,
-        Lead::By(m) => flows_by(rows, cols, codes, row, col, m),
     }
 }
 

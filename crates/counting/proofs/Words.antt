@@ -1,0 +1,172 @@
+-- The word of a cell: which neighbours flow in, and how many.
+-- Assumes nothing.
+use mathlib.Core.Path.{_≡_, refl, sym, ap, _∙_}
+use mathlib.Core.Bool.{Bool, true, false, cond, not}
+use mathlib.Core.List.{List, [], _∷_}
+use mathlib.Core.Option.{Option, none, some}
+use Prim.Native.Nat.{ℕ, zero, suc, _+_, _-_, _*_, _≤_, _<_, _^_}
+use native.Mathlib.Numerals.{add-one}
+use native.Mathlib.Omega.{arith}
+use lib.ListN.{length, getD}
+use lib.Dec.{eqb}
+use borrow.Author.Tests.{eq-eqb, ne-eqb}
+use Rattle.lists.specs.Lists.{howMany}
+use Rattle.ground.specs.Compass.{Dir, E, SE, S, SW, W, NW, N, NE, dirs, codeOf, opposite}
+use Rattle.ground.specs.Grid.{Grid, Link, gridOf, cellCount, codeAt, ground, neighbour, flowsIn, inflow}
+use Rattle.ground.specs.Grid.{inflowsFrom, inflows}
+use Rattle.ground.proofs.Cells.{code-inside, ground-inflows}
+use Rattle.moves.specs.declared.Neighbour.{Neighbour}
+use Rattle.moves.specs.declared.Spot.{Spot}
+use Rattle.moves.specs.declared.Spot.the-variants.{Off, On}
+use Rattle.moves.specs.Moves.{spotCell, dirAt, neighbourOf}
+use Rattle.moves.specs.Walks.{ifFlowsIn, inflowFrom, FlowsFrom}
+use Rattle.moves.proofs.Spots.{lies, row-is, col-is}
+use Rattle.inflows.proofs.InflowRecord.{inner-spot, inner-inside}
+use Rattle.counting.specs.Counting.{InnerOn, flowsAt, countedWord}
+
+-- ---- ground by the code that is read
+
+module _ (rows cols : ℕ) (codes : List ℕ) {x : ℕ} (inside : x < rows * cols) where
+  pub is-ground : (getD codes x 0 ≡ 0 → ⊥) → ground (gridOf rows cols codes) x ≡ true
+  is-ground h = ap (λ (k : ℕ). not (eqb k 0)) (code-inside (gridOf rows cols codes) x inside)
+      ∙ ap not (ne-eqb (getD codes x 0) 0 h)
+
+  pub is-null : getD codes x 0 ≡ 0 → ground (gridOf rows cols codes) x ≡ false
+  is-null h = ap (λ (k : ℕ). not (eqb k 0)) (code-inside (gridOf rows cols codes) x inside)
+      ∙ ap not (eq-eqb (getD codes x 0) 0 h)
+
+-- ---- does a neighbour flow in?
+
+module _ (g : Grid) (d : Dir) where
+  none-flows : (o : Option ℕ) → none ≡ ifFlowsIn g d o → false ≡ flowsIn g d o
+  none-flows none e = refl
+  none-flows (some y) e = go (flowsIn g d (some y)) refl
+    where
+      go : (b : Bool) → flowsIn g d (some y) ≡ b → false ≡ flowsIn g d (some y)
+      go true q = let z : none ≡ some y = e ∙ rw q in let w : _≡_ {A = ℕ} 0 1 = cc in absurd (omega arith)
+      go false q = sym q
+
+  some-flows : (o : Option ℕ) {z : ℕ} → some z ≡ ifFlowsIn g d o → true ≡ flowsIn g d o
+  some-flows none e = let w : _≡_ {A = ℕ} 0 1 = cc in absurd (omega arith)
+  some-flows (some y) {z} e = go (flowsIn g d (some y)) refl
+    where
+      go : (b : Bool) → flowsIn g d (some y) ≡ b → true ≡ flowsIn g d (some y)
+      go true q = sym q
+      go false q = let w : some z ≡ none = e ∙ rw q in let v : _≡_ {A = ℕ} 0 1 = cc in absurd (omega arith)
+
+module _ {rows cols row col k : ℕ} {codes : List ℕ} {s : Spot} (p : FlowsFrom rows cols codes row col k s) where
+  pub flows-off : s ≡ Off → false ≡ flowsAt (gridOf rows cols codes) (row * cols + col) k
+  unfolding inflowFrom
+  flows-off e =
+      let there : spotCell cols s ≡ none = rw e in
+      none-flows (gridOf rows cols codes) (dirAt k)
+      (neighbour (gridOf rows cols codes) (row * cols + col) (dirAt k)) (sym there ∙ p .is-cell)
+
+  pub flows-on : {x y : ℕ} → s ≡ On x y → true ≡ flowsAt (gridOf rows cols codes) (row * cols + col) k
+  unfolding inflowFrom
+  flows-on {x} {y} e =
+      let there : spotCell cols s ≡ some (x * cols + y) = rw e in
+      some-flows (gridOf rows cols codes) (dirAt k)
+      (neighbour (gridOf rows cols codes) (row * cols + col) (dirAt k)) (sym there ∙ p .is-cell)
+
+-- a neighbour of an inner cell flows in if its code points back
+pub inner-flows : {rows cols row col : ℕ} {codes : List ℕ} (i : InnerOn rows cols codes row col) (k : ℕ)
+    {n : Neighbour} → n ≡ neighbourOf (dirAt k)
+    → eqb (getD codes ((row + n .row - 1) * cols + (col + n .col - 1)) 0) (n .back)
+    ≡ flowsAt (gridOf rows cols codes) (row * cols + col) k
+inner-flows {rows} {cols} {row} {col} {codes} i k {n} is-n =
+    let there = (row + n .row - 1) * cols + (col + n .col - 1) in
+    let at : neighbour (gridOf rows cols codes) (row * cols + col) (dirAt k) ≡ some there =
+    lies (inner-spot (i .on) (i .inner) k is-n) codes (i .on .col-in) (dirAt k) (row-is (i .on) k is-n)
+    (col-is (i .on) k is-n) in
+    let code : codeAt (gridOf rows cols codes) there ≡ getD codes there 0 =
+    code-inside (gridOf rows cols codes) there (inner-inside (i .on) (i .inner) k is-n) in
+    let back : n .back ≡ codeOf (opposite (dirAt k)) = ap (λ (m : Neighbour). m .back) is-n in
+    sym (ap (flowsIn (gridOf rows cols codes) (dirAt k)) at
+    ∙ ap (λ (x : ℕ). eqb x (codeOf (opposite (dirAt k)))) code
+    ∙ ap (λ (x : ℕ). eqb (getD codes there 0) x) (sym back))
+
+-- ---- how many do
+
+module _ (g : Grid) (x : ℕ) where
+  one-more : (d : Dir) (o : Option ℕ) (ks : List (Link Dir))
+      → length (inflow g d o ks) ≡ cond (flowsIn g d o) 1 0 + length ks
+  one-more d none ks = omega arith
+  one-more d (some y) ks = go (flowsIn g d (some y)) refl
+    where
+      go : (b : Bool) → flowsIn g d (some y) ≡ b
+          → length (inflow g d (some y) ks) ≡ cond (flowsIn g d (some y)) 1 0 + length ks
+      go true e = rw e (omega arith)
+      go false e = rw e (omega arith)
+
+  next-more : (d : Dir) (ds : List Dir)
+      → length (inflowsFrom g (d ∷ ds) x) ≡ cond (flowsIn g d (neighbour g x d)) 1 0 + length (inflowsFrom g ds x)
+  next-more d ds = one-more d (neighbour g x d) (inflowsFrom g ds x)
+
+  all-eight : howMany (flowsAt g x) 8 ≡ length (inflowsFrom g dirs x)
+  unfolding howMany
+  all-eight = omega (
+    arith,
+    next-more E (SE ∷ S ∷ SW ∷ W ∷ NW ∷ N ∷ NE ∷ []),
+    next-more SE (S ∷ SW ∷ W ∷ NW ∷ N ∷ NE ∷ []),
+    next-more S (SW ∷ W ∷ NW ∷ N ∷ NE ∷ []),
+    next-more SW (W ∷ NW ∷ N ∷ NE ∷ []),
+    next-more W (NW ∷ N ∷ NE ∷ []),
+    next-more NW (N ∷ NE ∷ []),
+    next-more N (NE ∷ []),
+    next-more NE [],
+  )
+
+  -- no more than were looked at
+  many-few : (k : ℕ) → howMany (flowsAt g x) k ≤ k
+  unfolding howMany
+  many-few zero = omega arith
+  many-few (suc k) = omega (arith, many-few k, go (flowsAt g x k))
+    where
+      go : (b : Bool) → cond b 1 0 ≤ 1
+      go true = omega arith
+      go false = omega arith
+
+  -- THE WORD
+  pub ground-word : ground g x ≡ true → countedWord g x ≡ suc (2 ^ 25 * length (inflows g x))
+  unfolding countedWord
+  ground-word v = rw v
+
+  pub null-word : ground g x ≡ false → countedWord g x ≡ 0
+  unfolding countedWord
+  null-word v = rw v
+
+  -- A WORD AT WORK: the inflows among the first k neighbours are counted
+  pub record SoFar (k w : ℕ) : Type 0 where
+    pub few : k ≤ 8
+    pub is-word : w ≡ suc (2 ^ 25 * howMany (flowsAt g x) k)
+
+  pub begin : SoFar 0 1
+  unfolding howMany
+  begin = record { few = omega arith; is-word = omega arith }
+
+module _ {g : Grid} {x k w : ℕ} (s : SoFar g x k w) where
+  pub fits : w + 2 ^ 25 < 2 ^ 32
+  fits = omega (arith, s .few, s .is-word, many-few g x k)
+
+  -- one neighbour more is looked at, and flows in or not
+  module _ (h : k < 8) {flows : Bool} (e : flows ≡ flowsAt g x k) where
+    pub more : flows ≡ true → SoFar g x (k + 1) (w + 2 ^ 25)
+    unfolding howMany
+    more t =
+        let m : howMany (flowsAt g x) (k + 1) ≡ howMany (flowsAt g x) k + 1 = rw (add-one k, sym e ∙ t) refl in
+        record { few = omega arith; is-word = omega (arith, s .is-word, m) }
+
+    pub no-more : flows ≡ false → SoFar g x (k + 1) w
+    unfolding howMany
+    no-more t =
+        let m : howMany (flowsAt g x) (k + 1) ≡ howMany (flowsAt g x) k + 0 = rw (add-one k, sym e ∙ t) refl in
+        record { few = omega arith; is-word = omega (arith, s .is-word, m) }
+
+  -- all eight are
+  pub all-counted : 8 ≤ k → ground g x ≡ true → w ≡ countedWord g x
+  all-counted h v =
+      let q : k ≡ 8 = omega (arith, s .few) in
+      s .is-word ∙ ap (λ (n : ℕ). suc (2 ^ 25 * howMany (flowsAt g x) n)) q
+      ∙ ap (λ (n : ℕ). suc (2 ^ 25 * n)) (all-eight g x ∙ ap length (sym (ground-inflows g x v)))
+      ∙ sym (ground-word g x v)
