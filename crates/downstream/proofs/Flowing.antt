@@ -6,6 +6,7 @@ use mathlib.Core.Option.{some}
 use Prim.Native.Nat.{ℕ, _+_, _-_, _*_, _≤_, _<_}
 use native.Mathlib.Omega.{arith}
 use lib.ListN.{length, getD}
+use lib.Arith.{digits-lt}
 use Rattle.downstream.specs.declared.Downstream.{Downstream}
 use Rattle.downstream.specs.declared.Downstream.the-variants.{End, To}
 use Rattle.moves.specs.declared.Move.{Move}
@@ -24,7 +25,7 @@ use Rattle.downstream.specs.Offsets.{placeBy, offsetOf}
 use Rattle.downstream.specs.Flowing.{Numbered, FlowsOn}
 use Rattle.downstream.proofs.Steps.{offset-at, offset-small, number-after}
 
-end-to : {row col at : ℕ} → End ≡ To row col at → ⊥
+pub end-to : {row col at : ℕ} → End ≡ To row col at → ⊥
 end-to e = let z : _≡_ {A = ℕ} 0 1 = cc in omega arith
 
 module _ {rows cols row col at : ℕ} {codes offsets : List ℕ} (n : Numbered rows cols codes offsets row col at) where
@@ -115,3 +116,9 @@ module _ {rows cols row col at : ℕ} {codes offsets : List ℕ} (n : Numbered r
               → FlowsOn (gridOf rows cols codes) at (To r c (at + getD offsets place 0 - (cols + 1)))
           flows-there z = goes to-is
               (flows-on (n .on) led p e (λ q. z (ap (λ (y : ℕ). getD codes y 0) to-is ∙ q)))
+
+-- the cell that a cell flows to is on the grid
+pub flows-inside : {g : Grid} {x row col at : ℕ} {r : Downstream} → FlowsOn g x r → r ≡ To row col at
+    → at < g .rows * g .cols
+flows-inside {row = row} {col = col} {at = at} t e =
+    omega (arith, t .is-at row col at e, digits-lt (t .row-in row col at e) (t .col-in row col at e))

@@ -10,8 +10,8 @@ use native.Mathlib.Numerals.{add-one}
 use native.Mathlib.Omega.{arith}
 use lib.ListN.{length, getD, set}
 use lib.Seq.{getD-set-same, getD-set-other}
-use Rattle.moves.specs.declared.Spot.{Spot}
-use Rattle.moves.specs.declared.Spot.the-variants.{Off, On}
+use Rattle.downstream.specs.declared.Downstream.{Downstream}
+use Rattle.downstream.specs.declared.Downstream.the-variants.{End, To}
 use Rattle.lists.specs.Lists.{sumOf}
 use Rattle.ground.specs.Grid.{Grid, gridOf, cellCount, ground, next}
 use Rattle.ground.proofs.Cells.{ground-within}
@@ -38,8 +38,8 @@ use Rattle.filling.proofs.Flags.{
   plain,
   cut-end,
 }
-use Rattle.moves.proofs.Spots.{off-on}
-use Rattle.filling.proofs.Counts.{flows-ground}
+use Rattle.downstream.proofs.Flowing.{end-to}
+use Rattle.filling.proofs.Outlets.{flows-ground}
 use Rattle.lists.proofs.Kept.{kept-all, kept-then, sum-set}
 
 -- the bounds of a word
@@ -170,42 +170,44 @@ module _ {rows cols : ℕ} {codes outlets l : List ℕ} (f : Fillable rows cols 
 -- ---- the way down
 
 module _ {g : Grid} {outlets : List ℕ} {i : ℕ} where
-  ways-end : {l m : List ℕ} → Kept (cellCount g) l m → Looked g outlets m i → Going g outlets i l m Off
+  ways-end : {l m : List ℕ} → Kept (cellCount g) l m → Looked g outlets m i → Going g outlets i l m End
   ways-end k p = record {
-    is-down = λ r c e. absurd (off-on e);
-    row-in = λ r c e. absurd (off-on e);
-    col-in = λ r c e. absurd (off-on e);
+    is-down = λ r c a e. absurd (end-to e);
+    is-at = λ r c a e. absurd (end-to e);
+    row-in = λ r c a e. absurd (end-to e);
+    col-in = λ r c a e. absurd (end-to e);
     is-done = λ e. p;
     kept = k;
   }
 
-  goes-on : {l m : List ℕ} {row col : ℕ} → Kept (cellCount g) l m → row < g .rows → col < g .cols
-      → Down g outlets m i (row * g .cols + col) → Going g outlets i l m (On row col)
-  goes-on {m = m} {row = row} {col = col} k r c d = record {
-    is-down = λ x y e. let a : row ≡ x = cc in let b : col ≡ y = cc in
-        subst (λ (u : ℕ). Down g outlets m i (u * g .cols + y)) a
-        (subst (λ (u : ℕ). Down g outlets m i (row * g .cols + u)) b d);
-    row-in = λ x y e. let a : row ≡ x = cc in omega arith;
-    col-in = λ x y e. let b : col ≡ y = cc in omega arith;
-    is-done = λ e. absurd (off-on (sym e));
+  goes-on : {l m : List ℕ} {row col at : ℕ} → Kept (cellCount g) l m → row < g .rows → col < g .cols
+      → at ≡ row * g .cols + col → Down g outlets m i at → Going g outlets i l m (To row col at)
+  goes-on {m = m} {row = row} {col = col} {at = at} k r c s d = record {
+    is-down = λ x y a e. let q : at ≡ a = cc in subst (Down g outlets m i) q d;
+    is-at = λ x y a e. let q : at ≡ a = cc in let t : row * g .cols + col ≡ x * g .cols + y = cc in omega arith;
+    row-in = λ x y a e. let q : row ≡ x = cc in omega arith;
+    col-in = λ x y a e. let q : col ≡ y = cc in omega arith;
+    is-done = λ e. absurd (end-to (sym e));
     kept = k;
   }
 
-  pub passed-off : {l m : List ℕ} → Kept (cellCount g) l m → Looked g outlets m i → Passed g outlets i l m Off
-  passed-off k p = record { going = ways-end k p; less = λ r c e. absurd (off-on e) }
+  pub passed-end : {l m : List ℕ} → Kept (cellCount g) l m → Looked g outlets m i → Passed g outlets i l m End
+  passed-end k p = record { going = ways-end k p; less = λ r c a e. absurd (end-to e) }
 
-  pub passed-on : {l m : List ℕ} {row col : ℕ} → Kept (cellCount g) l m → row < g .rows → col < g .cols
-      → Down g outlets m i (row * g .cols + col) → sumOf m < sumOf l → Passed g outlets i l m (On row col)
-  passed-on k r c d h = record { going = goes-on k r c d; less = λ x y e. h }
+  pub passed-on : {l m : List ℕ} {row col at : ℕ} → Kept (cellCount g) l m → row < g .rows → col < g .cols
+      → at ≡ row * g .cols + col → Down g outlets m i at → sumOf m < sumOf l
+      → Passed g outlets i l m (To row col at)
+  passed-on k r c s d h = record { going = goes-on k r c s d; less = λ x y a e. h }
 
-  pub going-begin : {l : List ℕ} {row col : ℕ} → row < g .rows → col < g .cols
-      → Down g outlets l i (row * g .cols + col) → Going g outlets i l l (On row col)
-  going-begin r c d = goes-on kept-all r c d
+  pub going-begin : {l : List ℕ} {row col at : ℕ} → row < g .rows → col < g .cols → at ≡ row * g .cols + col
+      → Down g outlets l i at → Going g outlets i l l (To row col at)
+  going-begin r c s d = goes-on kept-all r c s d
 
-  pub going-on : {l m n : List ℕ} {s t : Spot} → Going g outlets i l m s → Passed g outlets i m n t
+  pub going-on : {l m n : List ℕ} {s t : Downstream} → Going g outlets i l m s → Passed g outlets i m n t
       → Going g outlets i l n t
   going-on a p = record {
     is-down = p .going .is-down;
+    is-at = p .going .is-at;
     row-in = p .going .row-in;
     col-in = p .going .col-in;
     is-done = p .going .is-done;
@@ -213,14 +215,14 @@ module _ {g : Grid} {outlets : List ℕ} {i : ℕ} where
   }
 
 -- its measure: what the words add up to, and nothing at its end
-abbrev pub ahead : Spot → ℕ → ℕ
-ahead Off n = 0
-ahead (On row col) n = suc n
+abbrev pub ahead : Downstream → ℕ → ℕ
+ahead End n = 0
+ahead (To row col at) n = suc n
 
-pub ahead-less : {s t : Spot} {row col m n : ℕ} → s ≡ On row col → ((r c : ℕ) → t ≡ On r c → n < m)
-    → ahead t n < ahead s m
+pub ahead-less : {s t : Downstream} {row col at m n : ℕ} → s ≡ To row col at
+    → ((r c a : ℕ) → t ≡ To r c a → n < m) → ahead t n < ahead s m
 ahead-less {t = t} {m = m} {n = n} e h = rw e (go t h)
   where
-    go : (u : Spot) → ((r c : ℕ) → u ≡ On r c → n < m) → ahead u n < suc m
-    go Off k = omega arith
-    go (On r c) k = omega (arith, k r c refl)
+    go : (u : Downstream) → ((r c a : ℕ) → u ≡ To r c a → n < m) → ahead u n < suc m
+    go End k = omega arith
+    go (To r c a) k = omega (arith, k r c a refl)

@@ -18,8 +18,8 @@ use Rattle.ground.proofs.Network.{Network}
 use Rattle.ground.proofs.Agreement.{noOutlet}
 use Rattle.ground.proofs.Cells.{code-inside, ground-inflows, null-inflows}
 use Rattle.ground.proofs.GridNetwork.{network, inflows-induct}
-use Rattle.filling.specs.Packed.{oneEach}
-use Rattle.filling.specs.Filling.{flagIf, flagOf, nextCut, upsCut}
+use Rattle.filling.specs.Packed.{oneEach, flagIf}
+use Rattle.filling.specs.Filling.{flagOf, nextCut, upsCut}
 use Rattle.filling.proofs.Totals.{ones-few}
 use Rattle.filling.proofs.Cut.{cut, cut-step, next-cut, next-uncut, total-uncut}
 
@@ -41,21 +41,10 @@ flag-mod outlets x w = go (member x outlets)
     go true h i = omega arith
     go false h i = omega arith
 
--- ---- ground by the code that is read
-
-module _ (rows cols : ℕ) (codes : List ℕ) {x : ℕ} (inside : x < rows * cols) where
-  pub is-ground : (getD codes x 0 ≡ 0 → ⊥) → ground (gridOf rows cols codes) x ≡ true
-  is-ground h = ap (λ (k : ℕ). not (eqb k 0)) (code-inside (gridOf rows cols codes) x inside)
-      ∙ ap not (ne-eqb (getD codes x 0) 0 h)
-
-  pub is-null : getD codes x 0 ≡ 0 → ground (gridOf rows cols codes) x ≡ false
-  is-null h = ap (λ (k : ℕ). not (eqb k 0)) (code-inside (gridOf rows cols codes) x inside)
-      ∙ ap not (eq-eqb (getD codes x 0) 0 h)
-
 -- ---- the network cut at the outlets
 
 -- no cell has more than eight inflows
-inflows-few : (g : Grid) (x : ℕ) → total (inflows g) noOutlet oneEach (inflows g x) ≤ 8
+pub inflows-few : (g : Grid) (x : ℕ) → total (inflows g) noOutlet oneEach (inflows g x) ≤ 8
 inflows-few g x = go (ground g x) refl
   where
     from : (ds : List Dir) → total (inflows g) noOutlet oneEach (inflowsFrom g ds x) ≤ length ds

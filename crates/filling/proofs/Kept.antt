@@ -1,9 +1,10 @@
--- Stores that keep what lies beyond the first places.
+-- A lent grid of words, and a cell of it.
 -- Assumes nothing.
 use mathlib.Core.List.{List}
-use Prim.Native.Nat.{ℕ}
+use Prim.Native.Nat.{ℕ, _*_, _≤_, _<_}
 use native.Mathlib.Omega.{arith}
-use Rattle.filling.specs.Filling.{Fillable}
+use Rattle.moves.proofs.Spots.{size, inside}
+use Rattle.filling.specs.Filling.{Fillable, FillableAt}
 use Rattle.lists.specs.Slices.{Kept}
 
 -- a lent grid is as large as it was
@@ -15,3 +16,10 @@ fillable-kept k f = record {
   has-words = omega (arith, k .same-length, f .has-words);
   on-ground = f .on-ground;
 }
+
+-- a cell's number is below R × C
+pub at-inside : {rows cols row col at : ℕ} {codes outlets steps l : List ℕ}
+    → FillableAt rows cols codes outlets steps l row col at → (at < rows * cols) × (rows * cols ≤ 4096 * 4096)
+at-inside f =
+    let n = f .numbered in
+    (omega (arith, n .is-at, inside (n .on)), size (n .on .grid .sides))

@@ -2,13 +2,12 @@ pub mod Totals
 pub mod Cut
 pub mod Passing
 pub mod AllLooked
-pub mod Counting
-pub mod Steps
 pub mod Flags
-pub mod Counts
 pub mod Kept
 pub mod Descents
 pub mod Sweeps
+pub mod Flagging
+pub mod Outlets
 pub mod Scans
 pub mod Fronts
 pub mod Results

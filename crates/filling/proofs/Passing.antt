@@ -63,11 +63,11 @@ module _ {S : Type 0} {next : ℕ → Option (Link S)} {ups : ℕ → List (Link
     waiting-times x = total-add ups (also passed y) passed oneEach y (also-same passed y y refl) fresh
         (λ c n. sym (also-other passed y c n)) (ups x)
 
-    waiting-hit : (h : Link S) → next y ≡ some h
+    pub waiting-hit : (h : Link S) → next y ≡ some h
         → waiting ups passed (h .cell) ≡ suc (waiting ups (also passed y) (h .cell))
     waiting-hit h e = omega (arith, waiting-times (h .cell), times-hit y h e)
 
-    waiting-miss : (x : ℕ) → ((h : Link S) → next y ≡ some h → h .cell ≡ x → ⊥)
+    pub waiting-miss : (x : ℕ) → ((h : Link S) → next y ≡ some h → h .cell ≡ x → ⊥)
         → waiting ups passed x ≡ waiting ups (also passed y) x
     waiting-miss x f = omega (arith, waiting-times x, times-miss y x f)
 

@@ -19,28 +19,18 @@ use Rattle.lists.proofs.Lists.{all-below, below-all}
 use Rattle.ground.proofs.Walks.{ends-none}
 use Rattle.ground.proofs.Cells.{ground-within, ground-sub, null-sub}
 use Rattle.ground.proofs.Ground.{grid-length, grid-at}
-use Rattle.filling.specs.Packed.{waiting}
-use Rattle.filling.specs.Filling.{Fillable, Within, flagIf, flagOf, Flagged, stripIf, Stripped, isSettled}
-use Rattle.filling.specs.Filling.{nextCut, upsCut, Counted, Looked, cutFree, filledIf}
+use Rattle.filling.specs.Packed.{flagIf, waiting}
+use Rattle.filling.specs.Filling.{Fillable, Within, flagOf, stripIf, Stripped, isSettled}
+use Rattle.filling.specs.Filling.{nextCut, upsCut, Looked, cutFree, filledIf}
 use Rattle.lists.specs.Slices.{Kept, Cleared}
 use Rattle.filling.proofs.Cut.{gathered-cut}
 use Rattle.filling.proofs.Passing.{partial-at-most}
 use Rattle.filling.proofs.AllLooked.{settled-word, settled-ends, ends-settled}
-use Rattle.filling.proofs.Counting.{count-begin, count-all}
 use Rattle.filling.proofs.Flags.{flag-mod, cut-network, cut-null}
 use Rattle.filling.proofs.Descents.{word-bounds}
 use Rattle.filling.proofs.Sweeps.{waits-not, settled-less}
 use Rattle.lists.proofs.Kept.{kept-then}
 use Rattle.lists.proofs.Overlaid.{front-is, cleared-front}
-
-member-in : (P : ℕ → Type 0) (xs : List ℕ) → ((j : ℕ) → j < length xs → P (getD xs j 0)) → (x : ℕ)
-    → member x xs ≡ true → P x
-member-in P [] h x e = absurd (true≢false (sym e))
-member-in P (o ∷ xs) h x e = go (eqb o x) refl (member-in P xs (λ j l. h (suc j) (omega arith)) x)
-  where
-    go : (b : Bool) → eqb o x ≡ b → (member x xs ≡ true → P x) → P x
-    go true q ih = subst P (eqb-true o x q) (h 0 (omega arith))
-    go false q ih = ih (sym (ap (λ (b : Bool). b || member x xs) q) ∙ e)
 
 module _ {rows cols : ℕ} {codes outlets l : List ℕ} (f : Fillable rows cols codes outlets l) where
   abbrev land : Grid
@@ -51,27 +41,6 @@ module _ {rows cols : ℕ} {codes outlets l : List ℕ} (f : Fillable rows cols 
 
   pub outlets-within : Within (rows * cols) outlets
   outlets-within j h = ground-within land (getD outlets j 0) (f .on-ground j h)
-
-  -- a grid of flags is counted up to none,
-  pub counted-begin : {old : List ℕ} → Flagged (rows * cols) outlets (length outlets) old l
-      → Counted (gridOf rows cols codes) outlets l 0
-  unfolding Counted
-  counted-begin s = count-begin (cut-network land outlets) (λ x v. flags x (ground-within land x v))
-      (λ x h v. flags x h ∙ ap flagIf (plain x v (member x outlets) refl))
-    where
-      flags : (x : ℕ) → x < rows * cols → getD l x 0 ≡ flagOf outlets x
-      flags x h = s .are-flags x h ∙ ap (λ (l : List ℕ). flagOf l x) (take-length outlets)
-
-      plain : (x : ℕ) → ground land x ≡ false → (b : Bool) → member x outlets ≡ b → member x outlets ≡ false
-      plain x v true e =
-          absurd (true≢false (sym (member-in (λ y. ground land y ≡ true) outlets (f .on-ground) x e) ∙ v))
-      plain x v false e = e
-
-  -- and a counted grid is looked at up to none
-  pub looked-begin : Counted (gridOf rows cols codes) outlets l (rows * cols)
-      → Looked (gridOf rows cols codes) outlets l 0
-  unfolding Counted Looked
-  looked-begin c = count-all (cut-network land outlets) c
 
   -- ---- all cells are looked at
 

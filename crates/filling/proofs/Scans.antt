@@ -26,22 +26,17 @@ module _ {P : List ℕ → ℕ → Type 0} {rows cols : ℕ} {old new : List ℕ
   pub scan-row : at < rows * cols → row < rows
   scan-row h = in-rows row col rows cols (omega (arith, s .is-at))
 
-  pub scan-here : P new (row * cols + col)
-  scan-here = subst (P new) (s .is-at) (s .holds)
-
   -- and one cell on
   pub scan-on : {row′ col′ : ℕ} {next : List ℕ} → at < rows * cols
       → (row′ * cols + col′ ≡ row * cols + col + 1) × (col′ < cols)
-      → P next (row * cols + col + 1) → Kept (rows * cols) new next → Scan P rows cols old next row′ col′ (at + 1)
-  scan-on {next = next} h e p k =
-      let q : row * cols + col + 1 ≡ at + 1 = omega (arith, s .is-at) in
-      record {
-        is-at = omega (arith, e .0, q);
-        col-in = e .1;
-        at-in = omega arith;
-        holds = subst (P next) q p;
-        kept = kept-then (s .kept) k;
-      }
+      → P next (at + 1) → Kept (rows * cols) new next → Scan P rows cols old next row′ col′ (at + 1)
+  scan-on h e p k = record {
+    is-at = omega (arith, e .0, s .is-at);
+    col-in = e .1;
+    at-in = omega arith;
+    holds = p;
+    kept = kept-then (s .kept) k;
+  }
 
   pub scan-end : rows * cols ≤ at → P new (rows * cols)
   scan-end h =

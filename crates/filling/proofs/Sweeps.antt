@@ -1,7 +1,7 @@
--- One turn of each loop over the places or the outlets: clearing, flagging, taking flags away, asking who waits.
+-- One turn of each loop over the places or the outlets: taking flags away, asking who waits.
 -- Assumes nothing.
 use mathlib.Core.Path.{_≡_, refl, sym, ap, _∙_, subst}
-use mathlib.Core.Bool.{Bool, true, false, _||_, or-true, or-false, or-assoc, true≢false}
+use mathlib.Core.Bool.{Bool, true, false, _&&_, _||_, or-true, or-false, or-assoc}
 use mathlib.Core.List.{List, [], _∷_, _++_}
 use Prim.Native.Nat.{ℕ, suc, _+_, _%_, _≤_, _<_, _^_}
 use native.Mathlib.Numerals.{add-one}
@@ -11,11 +11,8 @@ use lib.Seq.{getD-set-same, getD-set-other, take-suc}
 use lib.Dec.{eqb}
 use borrow.Author.Tests.{eqb-true, eqb-false, ltb-true, lt-ltb, le-ltb}
 use Rattle.lists.specs.Lists.{member, allBelow}
-use Rattle.lists.proofs.Lists.{all-below}
-use Rattle.filling.specs.Filling.{flagIf, flagOf, Flagged, stripIf, Stripped, isSettled}
+use Rattle.filling.specs.Filling.{stripIf, Stripped, isSettled}
 use Rattle.lists.proofs.Kept.{kept-all, kept-then, kept-set}
-
--- ---- clearing
 
 -- ---- the first j outlets and one more
 
@@ -25,7 +22,7 @@ member-snoc x (y ∷ xs) o = ap (λ (b : Bool). eqb y x || b) (member-snoc x xs 
     ∙ sym (or-assoc (eqb y x) (member x xs) (eqb o x))
 
 module _ (outlets : List ℕ) (j : ℕ) (h : j < length outlets) (x : ℕ) where
-  member-more : member x (take (suc j) outlets) ≡ (member x (take j outlets) || eqb (getD outlets j 0) x)
+  pub member-more : member x (take (suc j) outlets) ≡ (member x (take j outlets) || eqb (getD outlets j 0) x)
   member-more = ap (member x) (take-suc outlets j 0 h) ∙ member-snoc x (take j outlets) (getD outlets j 0)
 
   member-it : eqb (getD outlets j 0) x ≡ true → member x (take (suc j) outlets) ≡ true
@@ -34,28 +31,6 @@ module _ (outlets : List ℕ) (j : ℕ) (h : j < length outlets) (x : ℕ) where
   member-other : eqb (getD outlets j 0) x ≡ false → member x (take (suc j) outlets) ≡ member x (take j outlets)
   member-other e = member-more ∙ ap (λ (b : Bool). member x (take j outlets) || b) e
       ∙ or-false (member x (take j outlets))
-
--- ---- flagging
-
-pub flag-begin : {n : ℕ} {outlets l : List ℕ} → ((x : ℕ) → x < n → getD l x 0 ≡ 0) → Flagged n outlets 0 l l
-flag-begin z = record { kept = kept-all; are-flags = z }
-
-pub flag-step : {n j o : ℕ} {outlets l m : List ℕ} → o ≡ getD outlets j 0 → j < length outlets → getD outlets j 0 < n
-    → n ≤ length l → Flagged n outlets j l m → Flagged n outlets (j + 1) l (set m o (2 ^ 30))
-flag-step {n} {j} {o} {outlets} {l} {m} s h i r f = rw (add-one j) (record {
-  kept = kept-then (f .kept) (kept-set o (2 ^ 30) (omega arith));
-  are-flags = λ x k. go x k (eqb o x) refl;
-})
-  where
-    at-o : (x : ℕ) {b : Bool} → eqb o x ≡ b → eqb (getD outlets j 0) x ≡ b
-    at-o x e = ap (λ (y : ℕ). eqb y x) (sym s) ∙ e
-
-    go : (x : ℕ) → x < n → (b : Bool) → eqb o x ≡ b → getD (set m o (2 ^ 30)) x 0 ≡ flagOf (take (suc j) outlets) x
-    go x k true e = subst (λ (y : ℕ). getD (set m o (2 ^ 30)) y 0 ≡ 2 ^ 30) (eqb-true o x e)
-        (getD-set-same m o (2 ^ 30) 0 (omega (arith, f .kept .same-length)))
-        ∙ sym (ap flagIf (member-it outlets j h x (at-o x e)))
-    go x k false e = getD-set-other m o x (2 ^ 30) 0 (λ q. eqb-false o x e (sym q)) ∙ f .are-flags x k
-        ∙ sym (ap flagIf (member-other outlets j h x (at-o x e)))
 
 -- ---- taking flags away
 
@@ -90,15 +65,9 @@ strip-step {n} {j} {o} {outlets} {l} {m} s h i r f = rw (add-one j) (record {
 
 -- ---- asking who waits
 
-pub all-fails : (f : ℕ → Bool) (n i : ℕ) → i < n → f i ≡ false → allBelow f n ≡ false
-all-fails f n i h e = go (allBelow f n) refl
-  where
-    go : (b : Bool) → allBelow f n ≡ b → allBelow f n ≡ false
-    go true q = absurd (true≢false (sym (all-below f n q i h) ∙ e))
-    go false q = q
-
-pub all-more : (f : ℕ → Bool) (i : ℕ) → allBelow f i ≡ true → f i ≡ true → allBelow f (i + 1) ≡ true
-all-more f i h e = rw (add-one i) (rw e h)
+-- one cell more is asked, whatever the others said
+pub below-one : (f : ℕ → Bool) (i : ℕ) {all b : Bool} → all ≡ allBelow f i → f i ≡ b → (b && all) ≡ allBelow f (i + 1)
+below-one f i e q = rw (add-one i, q, e)
 
 pub waits-still : (l : List ℕ) (x : ℕ) → 2 ^ 25 ≤ getD l x 0 % 2 ^ 30 → isSettled l x ≡ false
 unfolding isSettled

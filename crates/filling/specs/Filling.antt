@@ -7,8 +7,8 @@ use mathlib.Core.Option.{Option}
 use Prim.Native.Nat.{ℕ, _+_, _*_, _%_, _≤_, _<_, _^_}
 use lib.ListN.{length, getD, take}
 use lib.Dec.{ltb}
-use Rattle.moves.specs.declared.Spot.{Spot}
-use Rattle.moves.specs.declared.Spot.the-variants.{Off, On}
+use Rattle.downstream.specs.declared.Downstream.{Downstream}
+use Rattle.downstream.specs.declared.Downstream.the-variants.{End, To}
 use Rattle.lists.specs.Lists.{member, allBelow, sumOf}
 use Rattle.ground.specs.Compass.{Dir}
 use Rattle.ground.specs.Grid.{Grid, Link, gridOf, cellCount, ground, next, inflows}
@@ -17,8 +17,9 @@ use Rattle.ground.specs.Accumulation.{subaccumulations}
 use Rattle.ground.specs.Subwatershed.{isOutlet}
 use Rattle.lists.specs.Slices.{overlaid, zeros, Kept}
 use Rattle.moves.specs.Lent.{LentGrid}
+use Rattle.downstream.specs.Flowing.{Numbered}
 use Rattle.filling.specs.Cut.{cutNext, cutUps}
-use Rattle.filling.specs.Packed.{Counting, Packed, Walking}
+use Rattle.filling.specs.Packed.{flagIf, Flagging, Packed, Walking}
 
 -- a grid with a column, outlets on its ground, and a lent grid that is large enough
 pub record Fillable (rows cols : ℕ) (codes outlets words : List ℕ) : Type 0 where
@@ -27,27 +28,18 @@ pub record Fillable (rows cols : ℕ) (codes outlets words : List ℕ) : Type 0 
   pub has-words : rows * cols ≤ length words
   pub on-ground : (j : ℕ) → j < length outlets → ground (gridOf rows cols codes) (getD outlets j 0) ≡ true
 
--- a cell of it
-pub record FillableAt (rows cols : ℕ) (codes outlets words : List ℕ) (row col : ℕ) : Type 0 where
+-- a cell of it, with its number, and the offsets of the grid's steps
+pub record FillableAt (rows cols : ℕ) (codes outlets steps words : List ℕ) (row col at : ℕ) : Type 0 where
   pub fillable : Fillable rows cols codes outlets words
-  pub row-in : row < rows
-  pub col-in : col < cols
+  pub numbered : Numbered rows cols codes steps row col at
 
--- the flag in an outlet's word
-abbrev pub flagIf : Bool → ℕ
-flagIf b = cond b (2 ^ 30) 0
-
+-- the flag of a cell
 abbrev pub flagOf : List ℕ → ℕ → ℕ
 flagOf outlets x = flagIf (member x outlets)
 
 -- every outlet is one of the first n places
 abbrev pub Within : ℕ → List ℕ → Type 0
 Within n outlets = (j : ℕ) → j < length outlets → getD outlets j 0 < n
-
--- the first n places hold the flags of the first j outlets
-pub record Flagged (n : ℕ) (outlets : List ℕ) (j : ℕ) (old new : List ℕ) : Type 0 where
-  pub kept : Kept n old new
-  pub are-flags : (x : ℕ) → x < n → getD new x 0 ≡ flagOf (take j outlets) x
 
 -- a word without its flag
 abbrev pub stripIf : Bool → ℕ → ℕ
@@ -70,9 +62,9 @@ module _ (g : Grid) (outlets : List ℕ) where
   abbrev pub upsCut : ℕ → List (Link Dir)
   upsCut = cutUps (isOutlet g outlets) (inflows g)
 
-  -- the cells before n are counted
-  unfoldable pub Counted : List ℕ → ℕ → Type 0
-  Counted words n = Counting upsCut (ground g) (cellCount g) (flagOf outlets) (λ x. getD words x 0) n n
+  -- the first j outlets are flagged, and no cell waits for one of them
+  unfoldable pub Flagged : List ℕ → ℕ → Type 0
+  Flagged words j = Flagging (inflows g) (ground g) (cellCount g) (λ x. getD words x 0) (λ c. member c (take j outlets))
 
   -- the cells before n are looked at, and nothing is on the way down
   unfoldable pub Looked : List ℕ → ℕ → Type 0
@@ -83,17 +75,18 @@ module _ (g : Grid) (outlets : List ℕ) where
   Down words n here = Walking upsCut (ground g) (cellCount g) (flagOf outlets) (λ x. getD words x 0) n here
 
   -- a way down: it is at a cell, or at its end
-  pub record Going (looked : ℕ) (old new : List ℕ) (r : Spot) : Type 0 where
-    pub is-down : (row col : ℕ) → r ≡ On row col → Down new looked (row * g .cols + col)
-    pub row-in : (row col : ℕ) → r ≡ On row col → row < g .rows
-    pub col-in : (row col : ℕ) → r ≡ On row col → col < g .cols
-    pub is-done : r ≡ Off → Looked new looked
+  pub record Going (looked : ℕ) (old new : List ℕ) (r : Downstream) : Type 0 where
+    pub is-down : (row col at : ℕ) → r ≡ To row col at → Down new looked at
+    pub is-at : (row col at : ℕ) → r ≡ To row col at → at ≡ row * g .cols + col
+    pub row-in : (row col at : ℕ) → r ≡ To row col at → row < g .rows
+    pub col-in : (row col at : ℕ) → r ≡ To row col at → col < g .cols
+    pub is-done : r ≡ End → Looked new looked
     pub kept : Kept (cellCount g) old new
 
   -- what one step down leaves: where the way goes on, the words add up to less
-  pub record Passed (looked : ℕ) (old new : List ℕ) (r : Spot) : Type 0 where
+  pub record Passed (looked : ℕ) (old new : List ℕ) (r : Downstream) : Type 0 where
     pub going : Going looked old new r
-    pub less : (row col : ℕ) → r ≡ On row col → sumOf new < sumOf old
+    pub less : (row col at : ℕ) → r ≡ To row col at → sumOf new < sumOf old
 
   -- does every walk come to its end or to an outlet?
   unfoldable pub cutFree : Bool

@@ -8,16 +8,16 @@ use mathlib.Core.Path.{_≡_}
 use mathlib.Core.Bool.{Bool, true, false, cond, not}
 use mathlib.Core.List.{List}
 use Prim.Native.Nat.{ℕ, suc, _+_, _*_, _≤_, _<_, _^_}
-use lib.Dec.{eqb, ltb}
+use lib.Dec.{eqb}
 use Rattle.ground.specs.Grid.{Link}
 use Rattle.ground.specs.Accumulation.{total}
 
 abbrev pub oneEach : ℕ → ℕ
 oneEach c = 1
 
--- 1 at the cells before n, which have counted themselves
-abbrev pub ownCount : ℕ → ℕ → ℕ
-ownCount n x = cond (ltb x n) 1 0
+-- the flag in an outlet's word
+abbrev pub flagIf : Bool → ℕ
+flagIf b = cond b (2 ^ 30) 0
 
 module _ {S : Type 0} (ups : ℕ → List (Link S)) where
   -- how many inflows of a cell are not yet passed down
@@ -28,13 +28,12 @@ module _ {S : Type 0} (ups : ℕ → List (Link S)) where
   abbrev pub arrived : (ℕ → Bool) → (ℕ → ℕ) → ℕ → ℕ
   arrived passed partial x = total ups (λ c. not (passed c)) partial (ups x)
 
-  module _ (ground : ℕ → Bool) (cellCount : ℕ) (flag : ℕ → ℕ) where
-    -- COUNTING: the cells before m are counted by the cells they flow to, and the cells before n by themselves
-    pub record Counting (word : ℕ → ℕ) (m n : ℕ) : Type 0 where
-      pub is-word : (x : ℕ) → ground x ≡ true
-          → word x ≡ flag x + (2 ^ 25 * arrived (λ c. ltb c m) oneEach x + ownCount n x)
-      pub null-word : (x : ℕ) → x < cellCount → ground x ≡ false → word x ≡ 0
+  -- FLAGGING: the cells of `out` are flagged, no cell waits for one of them, and nothing is passed down
+  pub record Flagging (ground : ℕ → Bool) (cellCount : ℕ) (word : ℕ → ℕ) (out : ℕ → Bool) : Type 0 where
+    pub is-word : (x : ℕ) → ground x ≡ true → word x ≡ flagIf (out x) + (2 ^ 25 * waiting out x + 1)
+    pub null-word : (x : ℕ) → x < cellCount → ground x ≡ false → word x ≡ 0
 
+  module _ (ground : ℕ → Bool) (cellCount : ℕ) (flag : ℕ → ℕ) where
     -- PASSING DOWN: the cells before `looked` are looked at, and those of `busy` are on the way down. What waits for
     -- nothing is passed down, but for those on the way and the headwaters ahead, and of these none is
     pub record Packed (word : ℕ → ℕ) (looked : ℕ) (busy : ℕ → Bool) : Type 0 where

@@ -206,16 +206,16 @@ fn settled(n: usize, words: &[u32]) -> bool
     requires { ⌜ n ≤ length (now words) ⌝ }
     ensures { λ r. ⌜ r ≡ allBelow (isSettled (now (words .entry))) n ⌝ }
 {
-    let mut yes = true;
+    let mut all = true;
     let mut i: usize = 0;
     while i < n {
         let word = words[i] % FLAG;
         i += 1;
         if word >= INFLOW {
-            yes = false;
+            all = false;
         }
     }
-    yes
+    all
 }
 
 // Fills the first rows * cols places of a lent grid with the subaccumulation, which is the accumulation where there

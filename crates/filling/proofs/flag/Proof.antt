@@ -1,46 +1,32 @@
 -- `filling::flag` meets its contract. The invariant: the first j outlets are flagged.
 -- Assumes nothing.
 use mathlib.Core.Path.{_≡_, subst}
-use Prim.Native.Nat.{ℕ, _-_, _≤_}
+use Prim.Native.Nat.{ℕ, _-_, _*_, _≤_}
 use native.Mathlib.Omega.{arith}
 use borrow.Author.Needs.{needs}
 use lib.ListN.{length}
+use Rattle.lists.specs.Slices.{Kept}
+use Rattle.lists.proofs.Kept.{kept-all, kept-then}
+use Rattle.ground.specs.Grid.{gridOf}
 use Rattle.filling.specs.Filling.{Flagged}
-use Rattle.filling.proofs.Sweeps.{flag-begin, flag-step}
+use Rattle.filling.proofs.Kept.{fillable-kept}
 use Rattle.filling.proofs.flag.Statement.{statement}
 use Rattle.filling.proofs.flag.Tie as tie
 
 abbrev Inv-loop : tie.InvT-loop
-Inv-loop n outlets words₀ j₀ words j = (j ≤ length outlets) × Flagged n outlets j words₀ words
+Inv-loop rows cols codes outlets words₀ j₀ words j = (j ≤ length outlets)
+    × Flagged (gridOf rows cols codes) outlets words j × Kept (rows * cols) words₀ words
 
 abbrev μ-loop : tie.MeasureT-loop
-μ-loop n outlets words₀ j₀ words j = length outlets - j
+μ-loop rows cols codes outlets words₀ j₀ words j = length outlets - j
 
 loop-holds : tie.Need-loop-holds Inv-loop μ-loop
-loop-holds c = (search needs, flag-begin (c .before .before .pre .2))
+loop-holds c = (omega arith, c .before .before .before .pre .1, kept-all)
 
-mul-index-of : tie.Need-mul-index-of Inv-loop μ-loop
-mul-index-of c = search needs
-
-shared-slice-read-index-of : tie.Need-shared-slice-read-index-of Inv-loop μ-loop
-shared-slice-read-index-of c = search needs
-
-index-of-requires : tie.Need-index-of-requires Inv-loop μ-loop
-index-of-requires c κs = search needs
-
-mul-words : tie.Need-mul-words Inv-loop μ-loop
-mul-words c = search needs
-
-slice-write-words : tie.Need-slice-write-words Inv-loop μ-loop
-slice-write-words c =
-    let s = c .before .before .before .before .before .before in
-    omega (
-      arith,
-      c .index-of .ensures,
-      s .pre .0,
-      s .pre .1 (c .before .before .before .loop .j) (c .before .before .loop-test .taken),
-      c .before .before .before .loop .inv .1 .kept .same-length,
-    )
+flag-at-requires : tie.Need-flag-at-requires Inv-loop μ-loop
+flag-at-requires c κs =
+    let v = c .before .before .loop .inv in
+    ((fillable-kept (v .2) (c .before .before .before .before .before .before .pre .0), c .before .loop-test .taken), v .1)
 
 add-j : tie.Need-add-j Inv-loop μ-loop
 add-j c = search needs
@@ -50,22 +36,20 @@ loop-less c = search needs
 
 loop-again : tie.Need-loop-again Inv-loop μ-loop
 loop-again c =
-    let s = c .before .before .before .before .before .before in
-    let h = c .before .before .loop-test .taken in (
-      search needs,
-      flag-step (c .index-of .ensures .0) h (s .pre .1 (c .before .before .before .loop .j) h) (s .pre .0)
-          (c .before .before .before .loop .inv .1),
-    )
+    let t = c .before .before .flag-at .ensures in
+    (search needs, t .0, kept-then (c .before .before .before .before .before .loop .inv .2) (t .1))
 
 same-length : tie.Need-same-length Inv-loop μ-loop
-same-length c = c .before .loop .inv .1 .kept .same-length
+same-length c = c .before .loop .inv .2 .same-length
 
 returns : tie.Need-returns Inv-loop μ-loop
 returns c =
-    let s = c .before .before .before .before .args in
-    let e : c .before .loop .j ≡ length (s .outlets .now) = omega arith in
-    subst (λ (j : ℕ). Flagged (s .n) (s .outlets .now) j (s .words .now) (c .before .loop .words)) e
-    (c .before .loop .inv .1)
+    let a = c .before .before .before .before .before .args in
+    let v = c .before .loop .inv in
+    let e : c .before .loop .j ≡ length (a .outlets .now) = omega (arith, v .0) in (
+      subst (Flagged (gridOf (a .rows) (a .cols) (a .codes .now)) (a .outlets .now) (c .before .loop .words)) e (v .1),
+      v .2,
+    )
 
 pub flag-spec : {M : Type 1} → statement M
 flag-spec =
@@ -74,11 +58,7 @@ flag-spec =
     Inv-loop
     μ-loop
     loop-holds
-    mul-index-of
-    shared-slice-read-index-of
-    index-of-requires
-    mul-words
-    slice-write-words
+    flag-at-requires
     add-j
     loop-less
     loop-again

@@ -2,37 +2,22 @@
 -- Assumes nothing.
 use native.Mathlib.Omega.{arith}
 use borrow.Author.Needs.{needs}
-use Rattle.moves.specs.Lent.{OnCell}
-use Rattle.moves.proofs.Spots.{size, inside}
-use Rattle.filling.proofs.Steps.{on-cell}
-use Rattle.filling.proofs.Descents.{look-no, look-yes}
 use Rattle.lists.proofs.Kept.{kept-all}
+use Rattle.filling.proofs.Kept.{at-inside}
+use Rattle.filling.proofs.Descents.{look-no, look-yes}
 use Rattle.filling.proofs.look_at.Statement.{statement}
 use Rattle.filling.proofs.look_at.Tie as tie
 
--- the cell
-cell : (s : tie.Start) → OnCell (s .args .rows) (s .args .cols) (s .args .codes .now) (s .args .row) (s .args .col)
-cell s = on-cell (s .pre .0)
-
-mul-at : tie.Need-mul-at
-mul-at c = let p = cell (c .before .before .before) in omega (arith, inside p, size (p .grid .sides))
-
-add-at : tie.Need-add-at
-add-at c = let p = cell (c .before .before .before) in omega (arith, inside p, size (p .grid .sides))
-
 mul-if1 : tie.Need-mul-if1
-mul-if1 c = let p = cell (c .before .before .before) in omega (arith, inside p, size (p .grid .sides))
+mul-if1 c = omega (arith, at-inside (c .before .before .before .pre .0))
 
 slice-read-if1 : tie.Need-slice-read-if1
-slice-read-if1 c = let s = c .before .before .before .before in
-    omega (arith, inside (cell s), s .pre .0 .fillable .has-words)
+slice-read-if1 c = let s = c .before .before .before .before in omega (arith, at-inside (s .pre .0), s .pre .0 .fillable .has-words)
 
 walk-down-requires : tie.Need-walk-down-requires
 walk-down-requires c κs =
-    let s = c .before .before .before .before .before .before in (
-      s .pre .0,
-      (look-yes (s .pre .0 .fillable) (inside (cell s)) (s .pre .1) (c .before .if1 .taken)),
-    )
+    let s = c .before .before .before .before .before .before in
+    (s .pre .0, look-yes (s .pre .0 .fillable) (at-inside (s .pre .0) .0) (s .pre .1) (c .before .if1 .taken))
 
 same-length : tie.Need-same-length
 same-length c = search needs
@@ -43,14 +28,12 @@ returns c = search needs
 returns-2 : tie.Need-returns-2
 returns-2 c =
     let s = c .before .before .before .before .before in
-    (look-no (s .pre .0 .fillable) (inside (cell s)) (s .pre .1) (c .if1 .left), kept-all)
+    (look-no (s .pre .0 .fillable) (at-inside (s .pre .0) .0) (s .pre .1) (c .if1 .left), kept-all)
 
 pub look-at-spec : {M : Type 1} → statement M
 look-at-spec =
     tie.close
     (tie.spec
-    mul-at
-    add-at
     mul-if1
     slice-read-if1
     walk-down-requires

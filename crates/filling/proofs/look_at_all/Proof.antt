@@ -7,43 +7,47 @@ use Rattle.ground.specs.Grid.{gridOf}
 use Rattle.moves.proofs.Spots.{size}
 use Rattle.filling.specs.Filling.{Looked}
 use Rattle.filling.proofs.Kept.{fillable-kept}
-use Rattle.filling.proofs.Scans.{Scan, scan-begin, scan-row, scan-here, scan-on, scan-end}
+use Rattle.filling.proofs.Scans.{Scan, scan-begin, scan-row, scan-on, scan-end}
 use Rattle.filling.proofs.look_at_all.Statement.{statement}
 use Rattle.filling.proofs.look_at_all.Tie as tie
 
 abbrev Inv-loop : tie.InvT-loop
-Inv-loop rows cols codes outlets words₀ n p₀ at₀ words p at =
+Inv-loop rows cols codes outlets words₀ n steps p₀ at₀ words p at =
     Scan (Looked (gridOf rows cols codes) outlets) rows cols words₀ words (p .row) (p .col) at
 
 abbrev μ-loop : tie.MeasureT-loop
-μ-loop rows cols codes outlets words₀ n p₀ at₀ words p at = rows * cols - at
+μ-loop rows cols codes outlets words₀ n steps p₀ at₀ words p at = rows * cols - at
 
 mul-n : tie.Need-mul-n Inv-loop μ-loop
-mul-n c = let s = c .before .before .before in omega (arith, size (s .pre .0 .grid .sides))
+mul-n c = omega (arith, size (c .before .before .before .pre .0 .grid .sides))
+
+offsets-requires : tie.Need-offsets-requires Inv-loop μ-loop
+offsets-requires c κs = c .before .before .before .pre .0 .grid .sides .cols-small
 
 loop-holds : tie.Need-loop-holds Inv-loop μ-loop
-loop-holds c = let s = c .before .before .before in scan-begin (s .pre .0 .some-cols) (s .pre .1)
+loop-holds c = let s = c .before .before .before .before in scan-begin (s .pre .0 .some-cols) (s .pre .1)
 
 look-at-requires : tie.Need-look-at-requires Inv-loop μ-loop
 look-at-requires c κs =
-    let v = c .before .before .loop .inv in (
+    let s = c .before .before .before .before .before .before .before .before in
+    let v = c .before .before .before .loop .inv in
+    let f = fillable-kept (v .kept) (s .pre .0) in (
       record {
-        fillable = fillable-kept (v .kept) (c .before .before .before .before .before .before .pre .0);
-        row-in = scan-row v (c .before .loop-test .taken);
-        col-in = v .col-in;
+        fillable = f;
+        numbered = record {
+          on = record { grid = f .grid; row-in = scan-row v (c .before .before .loop-test .taken); col-in = v .col-in };
+          is-at = v .is-at;
+          are-offsets = c .before .before .before .before .offsets .ensures;
+        };
       },
-      scan-here v,
+      v .holds,
     )
 
 next-requires : tie.Need-next-requires Inv-loop μ-loop
 next-requires c κs =
-    let s = c .before .before .before .before .before .before .before .before .before in
-    let v = c .before .before .before .before .before .loop .inv in (
-      omega (
-        arith,
-        scan-row v (c .before .before .before .before .loop-test .taken),
-        s .pre .0 .grid .sides .rows-small,
-      ),
+    let s = c .before .before .before .before .before .before .before .before .before .before .before in
+    let v = c .before .before .before .before .before .before .loop .inv in (
+      omega (arith, scan-row v (c .before .before .before .before .before .loop-test .taken), s .pre .0 .grid .sides .rows-small),
       v .col-in,
       s .pre .0 .grid .sides .cols-small,
     )
@@ -52,13 +56,12 @@ add-at : tie.Need-add-at Inv-loop μ-loop
 add-at c = search needs
 
 loop-less : tie.Need-loop-less Inv-loop μ-loop
-loop-less c = omega (arith, c .before .before .before .before .before .loop-test .taken)
+loop-less c = omega (arith, c .before .before .before .before .before .before .loop-test .taken)
 
 loop-again : tie.Need-loop-again Inv-loop μ-loop
 loop-again c =
     let t = c .before .before .before .look-at .ensures in
-    scan-on (c .before .before .before .before .before .before .loop .inv)
-    (c .before .before .before .before .before .loop-test .taken) (c .next .ensures) (t .0) (t .1)
+    scan-on (c .before .before .before .before .before .before .before .loop .inv) (c .before .before .before .before .before .before .loop-test .taken) (c .next .ensures) (t .0) (t .1)
 
 same-length : tie.Need-same-length Inv-loop μ-loop
 same-length c = c .before .loop .inv .kept .same-length
@@ -73,6 +76,7 @@ look-at-all-spec =
     Inv-loop
     μ-loop
     mul-n
+    offsets-requires
     loop-holds
     look-at-requires
     next-requires

@@ -1,33 +1,29 @@
--- `filling::settled` meets its contract. The invariant: of the first i cells none waits.
+-- `filling::settled` meets its contract. The invariant: what is said of the first i cells.
 -- Assumes nothing.
-use mathlib.Core.Path.{_≡_, refl, sym, ap, _∙_}
-use mathlib.Core.Bool.{true}
+use mathlib.Core.Path.{_≡_, refl, ap, _∙_}
 use Prim.Native.Nat.{_-_, _≤_}
 use native.Mathlib.Omega.{arith}
 use borrow.Author.Needs.{needs}
 use Rattle.lists.specs.Lists.{allBelow}
 use Rattle.filling.specs.Filling.{isSettled}
-use Rattle.filling.proofs.Sweeps.{all-fails, all-more, waits-still, waits-not}
+use Rattle.filling.proofs.Sweeps.{below-one, waits-still, waits-not}
 use Rattle.filling.proofs.settled.Statement.{statement}
 use Rattle.filling.proofs.settled.Tie as tie
 
 abbrev Inv-loop : tie.InvT-loop
-Inv-loop n words i₀ i = (i ≤ n) × (allBelow (isSettled words) i ≡ true)
+Inv-loop n words all₀ i₀ all i = (i ≤ n) × (all ≡ allBelow (isSettled words) i)
 
 abbrev μ-loop : tie.MeasureT-loop
-μ-loop n words i₀ i = n - i
+μ-loop n words all₀ i₀ all i = n - i
 
 loop-holds : tie.Need-loop-holds Inv-loop μ-loop
 loop-holds c = (search needs, refl)
 
-mul-if1 : tie.Need-mul-if1 Inv-loop μ-loop
-mul-if1 c = search needs
+mul-word : tie.Need-mul-word Inv-loop μ-loop
+mul-word c = search needs
 
-shared-slice-read-if1 : tie.Need-shared-slice-read-if1 Inv-loop μ-loop
-shared-slice-read-if1 c = search needs
-
-returns : tie.Need-returns Inv-loop μ-loop
-returns c = sym (all-fails _ _ _ (c .before .before .loop-test .taken) (waits-still _ _ (c .if1 .taken)))
+shared-slice-read-word : tie.Need-shared-slice-read-word Inv-loop μ-loop
+shared-slice-read-word c = search needs
 
 add-i : tie.Need-add-i Inv-loop μ-loop
 add-i c = search needs
@@ -38,16 +34,23 @@ loop-less c = search needs
 loop-again : tie.Need-loop-again Inv-loop μ-loop
 loop-again c =
     let words = c .before .before .before .before .args .words .now in
-    let i = c .before .before .before .loop .i in (
-      search needs,
-      all-more (isSettled words) i (c .before .before .before .loop .inv .1)
-          (waits-not words i (c .if1 .left)),
-    )
+    let i = c .before .before .before .loop .i in
+    (search needs, below-one (isSettled words) i (c .before .before .before .loop .inv .1) (waits-still words i (c .if1 .taken)))
 
-returns-2 : tie.Need-returns-2 Inv-loop μ-loop
-returns-2 c =
-    let e : c .before .loop .i ≡ c .before .before .args .n = omega arith in
-    sym (ap (allBelow (isSettled (c .before .before .args .words .now))) (sym e) ∙ c .before .loop .inv .1)
+loop-less-2 : tie.Need-loop-less-2 Inv-loop μ-loop
+loop-less-2 c = search needs
+
+loop-again-2 : tie.Need-loop-again-2 Inv-loop μ-loop
+loop-again-2 c =
+    let words = c .before .before .before .before .args .words .now in
+    let i = c .before .before .before .loop .i in
+    (search needs, below-one (isSettled words) i (c .before .before .before .loop .inv .1) (waits-not words i (c .if1 .left)))
+
+returns : tie.Need-returns Inv-loop μ-loop
+returns c =
+    let v = c .before .loop .inv in
+    let e : c .before .loop .i ≡ c .before .before .args .n = omega (arith, v .0) in
+    v .1 ∙ ap (allBelow (isSettled (c .before .before .args .words .now))) e
 
 pub settled-spec : {M : Type 1} → statement M
 settled-spec =
@@ -56,10 +59,11 @@ settled-spec =
     Inv-loop
     μ-loop
     loop-holds
-    mul-if1
-    shared-slice-read-if1
-    returns
+    mul-word
+    shared-slice-read-word
     add-i
     loop-less
     loop-again
-    returns-2)
+    loop-less-2
+    loop-again-2
+    returns)

@@ -1,0 +1,131 @@
+-- `filling::flag_at` meets its contract: the outlet is flagged already, or it flows nowhere, or a cell waited for it.
+-- Assumes nothing.
+use mathlib.Core.Path.{_≡_}
+use Prim.Native.Nat.{_*_, _<_}
+use native.Mathlib.Omega.{arith}
+use borrow.Author.Needs.{needs}
+use Rattle.lists.proofs.Kept.{kept-all, kept-then, kept-set}
+use Rattle.downstream.specs.Flowing.{FlowsOn}
+use Rattle.moves.specs.Walks.{Flows}
+use Rattle.ground.specs.Grid.{gridOf}
+use Rattle.filling.proofs.Outlets.{split, o-inside, o-room, again, at-end, z-inside, z-room, z-waits, waits-less}
+use Rattle.filling.proofs.flag_at.Statement.{statement}
+use Rattle.filling.proofs.flag_at.Tie as tie
+
+mul-index-of : tie.Need-mul-index-of
+mul-index-of c = search needs
+
+shared-slice-read-index-of : tie.Need-shared-slice-read-index-of
+shared-slice-read-index-of c = search needs
+
+index-of-requires : tie.Need-index-of-requires
+index-of-requires c κs = search needs
+
+mul-word : tie.Need-mul-word
+mul-word c = search needs
+
+slice-read-word : tie.Need-slice-read-word
+slice-read-word c = o-room (c .before .before .before .before .before .before .pre .0 .0) (c .before .index-of .ensures .0) (c .before .before .before .before .before .before .pre .0 .1) (c .before .before .before .before .before .before .pre .1)
+
+returns : tie.Need-returns
+returns c = (again (c .before .before .before .before .before .before .before .pre .0 .0) (c .before .before .index-of .ensures .0) (c .before .before .before .before .before .before .before .pre .0 .1) (c .before .before .before .before .before .before .before .pre .1) (c .if1 .taken), kept-all)
+
+add-words : tie.Need-add-words
+add-words c = search needs
+
+mul-words : tie.Need-mul-words
+mul-words c = search needs
+
+slice-write-words : tie.Need-slice-write-words
+slice-write-words c = o-room (c .before .before .before .before .before .before .before .pre .0 .0) (c .before .before .index-of .ensures .0) (c .before .before .before .before .before .before .before .pre .0 .1) (c .before .before .before .before .before .before .before .pre .1)
+
+offsets-requires : tie.Need-offsets-requires
+offsets-requires c κs = search needs
+
+div-downstream-of : tie.Need-div-downstream-of
+div-downstream-of c = search needs
+
+rem-downstream-of : tie.Need-rem-downstream-of
+rem-downstream-of c = search needs
+
+downstream-of-requires : tie.Need-downstream-of-requires
+downstream-of-requires c κs =
+    split (c .before .before .before .before .before .before .before .before .before .pre .0 .0) (o-inside (c .before .before .before .before .before .before .before .before .before .pre .0 .0) (c .before .before .before .before .index-of .ensures .0) (c .before .before .before .before .before .before .before .before .before .pre .0 .1) (c .before .before .before .before .before .before .before .before .before .pre .1))
+    (c .before .offsets .ensures)
+
+enum-told : tie.Need-enum-told
+enum-told c = search needs
+
+same-length : tie.Need-same-length
+same-length c = search needs
+
+returns-2 : tie.Need-returns-2
+returns-2 c = (
+  at-end (c .before .before .before .before .before .before .before .before .before .before .before .before .pre .0 .0) (c .before .before .before .before .before .before .before .index-of .ensures .0) (c .before .before .before .before .before .before .before .before .before .before .before .before .pre .0 .1) (c .before .before .before .before .before .before .before .before .before .before .before .before .pre .1) (c .before .before .before .before .before .if1 .left)
+      (c .before .before .downstream-of .ensures .ends-here (c .enum-told .given .1)),
+  kept-set _ _ (o-inside (c .before .before .before .before .before .before .before .before .before .before .before .before .pre .0 .0) (c .before .before .before .before .before .before .before .index-of .ensures .0) (c .before .before .before .before .before .before .before .before .before .before .before .before .pre .0 .1) (c .before .before .before .before .before .before .before .before .before .before .before .before .pre .1)),
+)
+
+enum-known-to : tie.Need-enum-known-to
+enum-known-to c = search needs
+
+-- the cell that it flows to, seen from where that is known
+to : (c : tie.After-known-told) → let a = c .before .before .before .before .before .before .before .before .before .before .before .before .before .args in
+    Flows (gridOf (a .rows) (a .cols) (a .codes .now)) (c .before .before .before .before .before .before .before .before .index-of .result) (c .before .to .given .0 .1 .1 .0)
+to c = c .before .before .before .downstream-of .ensures .goes-on _ _ _ (c .before .to .given .1)
+
+mul-below : tie.Need-mul-below
+mul-below c =
+    let s = c .before .before .before .before .before .before .before .before .before .before .before .before .before in
+    omega (arith, z-inside (c .before .before .before .before .before .before .before .before .before .before .before .before .before .pre .0 .0) (c .before .before .before .before .before .before .before .before .index-of .ensures .0) (c .before .before .before .before .before .before .before .before .before .before .before .before .before .pre .0 .1) (c .before .before .before .before .before .before .before .before .before .before .before .before .before .pre .1) (c .before .before .before .before .before .before .if1 .left) (to c))
+
+slice-read-below : tie.Need-slice-read-below
+slice-read-below c = z-room (c .before .before .before .before .before .before .before .before .before .before .before .before .before .before .pre .0 .0) (c .before .before .before .before .before .before .before .before .before .index-of .ensures .0) (c .before .before .before .before .before .before .before .before .before .before .before .before .before .before .pre .0 .1) (c .before .before .before .before .before .before .before .before .before .before .before .before .before .before .pre .1) (c .before .before .before .before .before .before .before .if1 .left) (to (c .before))
+
+sub-words : tie.Need-sub-words
+sub-words c = z-waits (c .before .before .before .before .before .before .before .before .before .before .before .before .before .before .pre .0 .0) (c .before .before .before .before .before .before .before .before .before .index-of .ensures .0) (c .before .before .before .before .before .before .before .before .before .before .before .before .before .before .pre .0 .1) (c .before .before .before .before .before .before .before .before .before .before .before .before .before .before .pre .1) (c .before .before .before .before .before .before .before .if1 .left) (to (c .before))
+
+mul-words-2 : tie.Need-mul-words-2
+mul-words-2 c = omega (arith, z-inside (c .before .before .before .before .before .before .before .before .before .before .before .before .before .before .pre .0 .0) (c .before .before .before .before .before .before .before .before .before .index-of .ensures .0) (c .before .before .before .before .before .before .before .before .before .before .before .before .before .before .pre .0 .1) (c .before .before .before .before .before .before .before .before .before .before .before .before .before .before .pre .1) (c .before .before .before .before .before .before .before .if1 .left) (to (c .before)))
+
+slice-write-words-2 : tie.Need-slice-write-words-2
+slice-write-words-2 c = z-room (c .before .before .before .before .before .before .before .before .before .before .before .before .before .before .pre .0 .0) (c .before .before .before .before .before .before .before .before .before .index-of .ensures .0) (c .before .before .before .before .before .before .before .before .before .before .before .before .before .before .pre .0 .1) (c .before .before .before .before .before .before .before .before .before .before .before .before .before .before .pre .1) (c .before .before .before .before .before .before .before .if1 .left) (to (c .before))
+
+same-length-2 : tie.Need-same-length-2
+same-length-2 c = search needs
+
+returns-3 : tie.Need-returns-3
+returns-3 c = (
+  waits-less (c .before .before .before .before .before .before .before .before .before .before .before .before .before .before .pre .0 .0) (c .before .before .before .before .before .before .before .before .before .index-of .ensures .0) (c .before .before .before .before .before .before .before .before .before .before .before .before .before .before .pre .0 .1) (c .before .before .before .before .before .before .before .before .before .before .before .before .before .before .pre .1) (c .before .before .before .before .before .before .before .if1 .left) (to (c .before)),
+  kept-then (kept-set _ _ (o-inside (c .before .before .before .before .before .before .before .before .before .before .before .before .before .before .pre .0 .0) (c .before .before .before .before .before .before .before .before .before .index-of .ensures .0) (c .before .before .before .before .before .before .before .before .before .before .before .before .before .before .pre .0 .1) (c .before .before .before .before .before .before .before .before .before .before .before .before .before .before .pre .1)))
+      (kept-set _ _ (z-inside (c .before .before .before .before .before .before .before .before .before .before .before .before .before .before .pre .0 .0) (c .before .before .before .before .before .before .before .before .before .index-of .ensures .0) (c .before .before .before .before .before .before .before .before .before .before .before .before .before .before .pre .0 .1) (c .before .before .before .before .before .before .before .before .before .before .before .before .before .before .pre .1) (c .before .before .before .before .before .before .before .if1 .left) (to (c .before)) .0)),
+)
+
+pub flag-at-spec : {M : Type 1} → statement M
+flag-at-spec =
+    tie.close
+    (tie.spec
+    mul-index-of
+    shared-slice-read-index-of
+    index-of-requires
+    mul-word
+    slice-read-word
+    returns
+    add-words
+    mul-words
+    slice-write-words
+    offsets-requires
+    div-downstream-of
+    rem-downstream-of
+    downstream-of-requires
+    enum-told
+    same-length
+    returns-2
+    enum-known-to
+    mul-below
+    slice-read-below
+    sub-words
+    mul-words-2
+    slice-write-words-2
+    same-length-2
+    returns-3)
