@@ -1,16 +1,19 @@
--- Which bytes are codes.
+-- Which bytes are codes, and the worst fault of several.
 -- Assumes nothing.
 use mathlib.Core.Path.{_≡_, refl, ap, _∙_}
-use mathlib.Core.Bool.{true, false, or-true}
+use mathlib.Core.Bool.{Bool, true, false, _&&_, or-true}
 use mathlib.Core.Logic.{_⊎_, inl, inr}
-use Prim.Native.Nat.{ℕ, zero, suc, _≤_, _<_}
+use Prim.Native.Nat.{ℕ, zero, suc, _+_, _≤_, _<_}
+use native.Mathlib.Numerals.{add-one}
 use native.Mathlib.Omega.{arith}
 use lib.Dec.{eqb}
 use borrow.Author.Tests.{ne-eqb}
+use Rattle.lists.specs.Lists.{allBelow}
 use Rattle.ground.specs.Compass.{Dir, E, SE, S, SW, W, NW, N, NE, codeOf}
 use Rattle.ground.proofs.Cells.{dir-code}
 use Rattle.moves.proofs.Codes.{no-dir}
 use Rattle.answers.specs.Checks.{isCode}
+use Rattle.checks.specs.Tests.{faultOf}
 
 -- the code of a direction is one
 dir-is-code : (d : Dir) → isCode (codeOf d) ≡ true
@@ -45,3 +48,26 @@ no-code {x} f h =
           (λ e. f (inr (inr (inl e)))) (λ e. f (inr (inr (inr (inl e))))) (λ e. f (inr (inr (inr (inr (inl e))))))
           (λ e. f (inr (inr (inr (inr (inr e)))))),
     )
+
+-- the worst fault before a number, the fault there, and the worse of the two
+module _ (f : ℕ → Bool) (n : ℕ) {worst fault : ℕ} (so-far : worst ≡ faultOf (allBelow f n))
+    (here : fault ≡ faultOf (f n)) where
+  pub worse : worst < fault → fault ≡ faultOf (allBelow f (n + 1))
+  worse = rw (so-far, here, add-one n) (go (f n) (allBelow f n))
+    where
+      go : (b c : Bool) → faultOf c < faultOf b → faultOf b ≡ faultOf (b && c)
+      go true c h = absurd (omega arith)
+      go false c h = refl
+
+  pub no-worse : fault ≤ worst → worst ≡ faultOf (allBelow f (n + 1))
+  no-worse = rw (so-far, here, add-one n) (go (f n) (allBelow f n))
+    where
+      go : (b c : Bool) → faultOf b ≤ faultOf c → faultOf c ≡ faultOf (b && c)
+      go true c h = refl
+      go false true h = absurd (omega arith)
+      go false false h = refl
+
+-- no fault
+pub faultless : (b : Bool) {worst : ℕ} → worst ≡ faultOf b → eqb worst 0 ≡ b
+faultless true e = rw e
+faultless false e = rw e

@@ -13,7 +13,7 @@ use Rattle.ground.specs.Accumulation.{agrees}
 use Rattle.answers.specs.Checks.{firstFailed, allPass, isSide, isCode, different}
 use Rattle.answers.specs.Checks.{check10, check11, check12, check14, check15, check16, check17, check18}
 use Rattle.answers.specs.Entries.{Catchment, gridChecks, agreedChecks, outletChecks, placeChecks}
-use Rattle.checks.specs.Lent.{isPlaced}
+use Rattle.checks.specs.Tests.{isPlaced}
 use Rattle.checks.proofs.Passed.{beyond-grid, beyond-agreed, beyond-outlets}
 
 module _ (rows cols : ℕ) (codes lent : List ℕ) where

@@ -14,11 +14,12 @@ use Rattle.lists.proofs.Lists.{and-both}
 use Rattle.ground.specs.Grid.{Grid, gridOf, cellCount, ground}
 use Rattle.ground.specs.Accumulation.{agrees}
 use Rattle.moves.specs.Lent.{LentGrid}
+use Rattle.agreement.specs.Lent.{Lent}
 use Rattle.answers.specs.Checks.{Check, firstFailed, allPass, isSide}
 use Rattle.answers.specs.Checks.{check10, check11, check12, check14, check15, check16, check17, check18}
 use Rattle.answers.specs.Entries.{Catchment, gridChecks, agreedChecks, outletChecks, placeChecks}
 use Rattle.answers.proofs.FirstFailed.{all-at, apart, passed, goes-on, never}
-use Rattle.checks.specs.Lent.{Lent, isPlaced}
+use Rattle.checks.specs.Tests.{isPlaced}
 
 -- ---- the sizes
 

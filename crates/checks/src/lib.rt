@@ -1,21 +1,17 @@
 // The checks 10 to 18 of the grid entries. The answer is the number of the first that fails, and 0 if none does.
-use inflows::inflows_of;
+use agreement::agrees_all;
 use lists::index_of;
 use lists::is_among;
-use lists::wide;
-use moves::Cell;
 ghost use mathlib.Core.Path.{_≡_};
-ghost use Prim.Native.Nat.{_*_, _+_, _≤_};
+ghost use Prim.Native.Nat.{_≤_};
 ghost use lib.ListN.{length, getD};
-ghost use lib.Dec.{eqb, leb};
+ghost use lib.Dec.{leb};
 ghost use Rattle.lists.specs.Lists.{In, allBelow};
 ghost use Rattle.ground.specs.Grid.{gridOf};
-ghost use Rattle.ground.specs.Accumulation.{balance, agrees};
 ghost use Rattle.moves.specs.Lent.{LentGrid};
-ghost use Rattle.inflows.specs.Values.{HasCell};
 ghost use Rattle.answers.specs.Checks.{firstFailed, allPass, isSide, isCode, different};
 ghost use Rattle.answers.specs.Entries.{catchment, gridChecks, agreedChecks, outletChecks, placeChecks};
-ghost use Rattle.checks.specs.Lent.{Lent, isPlaced};
+ghost use Rattle.checks.specs.Tests.{faultOf, isPlaced};
 
 // 10: is it a number of rows or of columns?
 fn is_side(n: usize) -> bool
@@ -41,29 +37,31 @@ fn all_reach(n: usize, lent: &[usize]) -> bool
     true
 }
 
-// 12: is the byte a code?
-fn is_code(code: u8) -> bool
-    ensures { λ r. ⌜ r ≡ isCode code ⌝ }
+// 12: 0 for a code, 1 for any other byte.
+fn fault_of(code: u8) -> u8
+    ensures { λ r. ⌜ r ≡ faultOf (isCode code) ⌝ }
 {
     match code {
-        0 | 1 | 2 | 4 | 8 | 16 | 32 | 64 | 128 => true,
-        _ => false,
+        0 | 1 | 2 | 4 | 8 | 16 | 32 | 64 | 128 => 0,
+        _ => 1,
     }
 }
 
-// 12: are the first n?
+// 12: are the first n bytes codes? No byte ends the loop, so that several can be looked at at once.
 pub fn all_codes(codes: &[u8], n: usize) -> bool
     requires { ⌜ n ≤ length (now codes) ⌝ }
     ensures { λ r. ⌜ r ≡ allBelow (λ x. isCode (getD (now (codes .entry)) x 0)) n ⌝ }
 {
+    let mut worst: u8 = 0;
     let mut at: usize = 0;
     while at < n {
-        if !is_code(codes[at]) {
-            return false;
-        }
+        let fault = fault_of(codes[at]);
         at += 1;
+        if worst < fault {
+            worst = fault;
+        }
     }
-    true
+    worst == 0
 }
 
 // 10, 11, 12. The lengths of the other lent grids are given. No product is taken before 10 is passed.
@@ -87,45 +85,6 @@ pub fn grid_number(rows: usize, cols: usize, codes: &[u8], lent: &[usize]) -> u3
         return 12;
     }
     0
-}
-
-// 14: does the accumulation fulfil its equation at a cell? The sum of the inflows is compared in 64 bits, since the
-// lent numbers may be any.
-fn agrees_at(
-    rows: usize,
-    cols: usize,
-    codes: &[u8],
-    accumulation: &[u32],
-    row: usize,
-    col: usize,
-) -> bool
-    requires { ⌜ HasCell rows cols (now codes) (now accumulation) row col ⌝ }
-    ensures { λ r. ⌜ r
-        ≡ eqb (getD (now (accumulation .entry)) (row * cols + col) 0)
-        (balance (gridOf rows cols (now (codes .entry))) (now (accumulation .entry)) (row * cols + col)) ⌝ }
-{
-    let at = row * cols + col;
-    let value = wide(accumulation[at]);
-    if codes[at] == 0 {
-        return value == 0;
-    }
-    let sum = inflows_of(rows, cols, codes, accumulation, row, col).sum();
-    value == sum + 1
-}
-
-// 14: at every cell, row by row?
-fn agrees_all(rows: usize, cols: usize, codes: &[u8], accumulation: &[u32]) -> bool
-    requires { ⌜ Lent rows cols (now codes) (now accumulation) ⌝ }
-    ensures { λ r. ⌜ r ≡ agrees (gridOf rows cols (now (codes .entry))) (now (accumulation .entry)) ⌝ }
-{
-    let mut here = Cell { row: 0, col: 0 };
-    while here.row < rows {
-        if !agrees_at(rows, cols, codes, accumulation, here.row, here.col) {
-            return false;
-        }
-        here = here.next(cols);
-    }
-    true
 }
 
 // 10, 11, 12, 14. The lengths of the lent grids but the codes are given, the accumulation's among them.

@@ -23,7 +23,7 @@ use Rattle.moves.specs.declared.Walk.{Walk}
 use Rattle.moves.specs.Walks.{OnGrid, WalkedOn}
 use Rattle.moves.proofs.Spots.{size}
 use Rattle.answers.specs.Entries.{Catchment}
-use Rattle.checks.specs.Lent.{isPlaced}
+use Rattle.checks.specs.Tests.{isPlaced}
 use Rattle.drawing.specs.Measuring.{Surveyed, OutletsIn, NoneBetween, MarkedAt, pathLength}
 use Rattle.drawing.specs.Cells.{cellOf, BeginsAt}
 use Rattle.drawing.proofs.Marks.{none-higher}

@@ -4,11 +4,10 @@ use moves::Spot;
 use moves::inflow_from;
 use moves::neighbour_at;
 ghost use mathlib.Core.Path.{_≡_};
-ghost use mathlib.Core.Bool.{true};
-ghost use Prim.Native.Nat.{_*_, _+_, _<_};
+ghost use Prim.Native.Nat.{_*_, _+_};
 ghost use Rattle.lists.specs.Lists.{sumOf};
 ghost use Rattle.ground.specs.Grid.{gridOf, inflowRecord};
-ghost use Rattle.inflows.specs.Values.{HasCell, Inner, InnerCell, valueAt};
+ghost use Rattle.inflows.specs.Values.{HasCell, InnerCell, valueAt};
 
 // The accumulations of the neighbours that flow in, in neighbour order; 0 where one does not.
 pub struct Inflows {
@@ -38,24 +37,8 @@ fn inflow_at(
     }
 }
 
-// Is it an inner cell, with all eight neighbours on the grid?
-fn is_inner(rows: usize, cols: usize, row: usize, col: usize) -> bool
-    requires { ⌜ (row < rows) × (col < cols) ⌝ }
-    ensures { λ r. ⌜ (r ≡ true → Inner rows cols row col) ⌝ }
-{
-    if row < 1 {
-        return false;
-    }
-    if col < 1 {
-        return false;
-    }
-    if rows <= row + 1 {
-        return false;
-    }
-    col + 1 < cols
-}
-
-// What flows in from neighbour k of an inner cell: no border is tested.
+// What flows in from neighbour k of an inner cell. No border is tested, and the number is loaded before the code is
+// looked at, so that no branch is left.
 fn inner_inflow_at(
     rows: usize,
     cols: usize,
@@ -72,14 +55,15 @@ fn inner_inflow_at(
     let n = neighbour_at(k);
     let at = (row + n.row - 1) * cols + (col + n.col - 1);
     let back = n.back;
+    let mut value = accumulation[at];
     if codes[at] != back {
-        return 0;
+        value = 0;
     }
-    accumulation[at]
+    value
 }
 
-// The inflow record of an inner cell.
-fn inner_inflows(
+// The inflow record of an inner cell. It has one caller, so that it is inlined there.
+pub fn inner_inflows(
     rows: usize,
     cols: usize,
     codes: &[u8],
@@ -100,7 +84,7 @@ fn inner_inflows(
     Inflows { values }
 }
 
-// The inflow record of a cell.
+// The inflow record of any cell.
 pub fn inflows_of(
     rows: usize,
     cols: usize,
@@ -113,9 +97,6 @@ pub fn inflows_of(
     ensures { λ r. ⌜ r .values
         ≡ inflowRecord (gridOf rows cols (now (codes .entry))) (now (accumulation .entry)) (row * cols + col) ⌝ }
 {
-    if is_inner(rows, cols, row, col) {
-        return inner_inflows(rows, cols, codes, accumulation, row, col);
-    }
     let mut values = [0u32; 8];
     let mut k: usize = 0;
     while k < 8 {

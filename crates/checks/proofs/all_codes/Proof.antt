@@ -1,39 +1,32 @@
--- `checks::all_codes` meets its contract. The loop's invariant: all before `at` are codes.
+-- `checks::all_codes` meets its contract. The loop's invariant: `worst` is 0 if all before `at` are codes, else 1.
 -- Assumes nothing.
-use mathlib.Core.Path.{_≡_, refl, sym, ap, _∙_}
-use mathlib.Core.Bool.{true}
+use mathlib.Core.Path.{_≡_, refl}
 use Prim.Native.Nat.{_-_, _≤_}
 use native.Mathlib.Omega.{arith}
 use borrow.Author.Needs.{needs}
-use borrow.Author.Tests.{not-true, not-false}
 use lib.ListN.{getD}
 use Rattle.lists.specs.Lists.{allBelow}
 use Rattle.answers.specs.Checks.{isCode}
-use Rattle.lists.proofs.Lists.{all-fails, all-more}
+use Rattle.checks.specs.Tests.{faultOf}
+use Rattle.checks.proofs.Codes.{worse, no-worse, faultless}
 use Rattle.checks.proofs.all_codes.Statement.{statement}
 use Rattle.checks.proofs.all_codes.Tie as tie
 
 abbrev Inv-loop : tie.InvT-loop
-Inv-loop codes n at₀ at = (at ≤ n) × (allBelow (λ x. isCode (getD codes x 0)) at ≡ true)
+Inv-loop codes n worst₀ at₀ worst at =
+    (at ≤ n) × (worst ≡ faultOf (allBelow (λ x. isCode (getD codes x 0)) at))
 
 abbrev μ-loop : tie.MeasureT-loop
-μ-loop codes n at₀ at = n - at
+μ-loop codes n worst₀ at₀ worst at = n - at
 
 loop-holds : tie.Need-loop-holds Inv-loop μ-loop
 loop-holds c = (search needs, refl)
 
-shared-slice-read-is-code : tie.Need-shared-slice-read-is-code Inv-loop μ-loop
-shared-slice-read-is-code c = search needs
+shared-slice-read-fault-of : tie.Need-shared-slice-read-fault-of Inv-loop μ-loop
+shared-slice-read-fault-of c = search needs
 
-is-code-requires : tie.Need-is-code-requires Inv-loop μ-loop
-is-code-requires c κs = search needs
-
-returns : tie.Need-returns Inv-loop μ-loop
-returns c =
-    let s = c .before .before .before .before .before .before in
-    sym (all-fails (λ x. isCode (getD (s .args .codes .now) x 0)) (s .args .n)
-    (c .before .before .before .before .loop .at) (c .before .before .before .loop-test .taken)
-    (sym (c .before .is-code .ensures) ∙ not-true (c .before .is-code .result) (c .if1 .taken)))
+fault-of-requires : tie.Need-fault-of-requires Inv-loop μ-loop
+fault-of-requires c κs = search needs
 
 add-at : tie.Need-add-at Inv-loop μ-loop
 add-at c = search needs
@@ -43,18 +36,28 @@ loop-less c = search needs
 
 loop-again : tie.Need-loop-again Inv-loop μ-loop
 loop-again c =
-    let s = c .before .before .before .before .before .before in (
+    let s = c .before .before .before .before in (
       search needs,
-      all-more (λ x. isCode (getD (s .args .codes .now) x 0)) (c .before .before .before .before .loop .at)
-          (c .before .before .before .before .loop .inv .1)
-          (sym (c .before .is-code .ensures) ∙ not-false (c .before .is-code .result) (c .if1 .left)),
+      worse (λ x. isCode (getD (s .before .before .args .codes .now) x 0)) (s .loop .at) (s .loop .inv .1)
+          (c .before .fault-of .ensures) (c .if1 .taken),
     )
 
-returns-2 : tie.Need-returns-2 Inv-loop μ-loop
-returns-2 c =
+loop-less-2 : tie.Need-loop-less-2 Inv-loop μ-loop
+loop-less-2 c = search needs
+
+loop-again-2 : tie.Need-loop-again-2 Inv-loop μ-loop
+loop-again-2 c =
+    let s = c .before .before .before .before in (
+      search needs,
+      no-worse (λ x. isCode (getD (s .before .before .args .codes .now) x 0)) (s .loop .at) (s .loop .inv .1)
+          (c .before .fault-of .ensures) (c .if1 .left),
+    )
+
+returns : tie.Need-returns Inv-loop μ-loop
+returns c =
     let s = c .before .before .before in
     let e : c .before .loop .at ≡ s .args .n = omega arith in
-    sym (ap (allBelow (λ x. isCode (getD (s .args .codes .now) x 0))) (sym e) ∙ c .before .loop .inv .1)
+    faultless _ (rw e at (c .before .loop .inv .1))
 
 pub all-codes-spec : {M : Type 1} → statement M
 all-codes-spec =
@@ -63,10 +66,11 @@ all-codes-spec =
     Inv-loop
     μ-loop
     loop-holds
-    shared-slice-read-is-code
-    is-code-requires
-    returns
+    shared-slice-read-fault-of
+    fault-of-requires
     add-at
     loop-less
     loop-again
-    returns-2)
+    loop-less-2
+    loop-again-2
+    returns)

@@ -7,7 +7,7 @@ use borrow.Author.Tests.{not-true, not-false}
 use lib.ListN.{length, drop}
 use Rattle.ground.specs.Grid.{gridOf}
 use Rattle.answers.specs.Checks.{allPass}
-use Rattle.checks.specs.Lent.{isPlaced}
+use Rattle.checks.specs.Tests.{isPlaced}
 use Rattle.checks.proofs.Lists.{all-ends, all-breaks, all-goes-on}
 use Rattle.checks.proofs.all_placed.Statement.{statement}
 use Rattle.checks.proofs.all_placed.Tie as tie

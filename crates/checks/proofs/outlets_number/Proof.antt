@@ -11,7 +11,7 @@ use Rattle.ground.specs.Grid.{gridOf}
 use Rattle.answers.specs.Checks.{Check, firstFailed, allPass}
 use Rattle.answers.specs.Entries.{Catchment, catchment, agreedChecks}
 use Rattle.answers.proofs.FirstFailed.{handed-on}
-use Rattle.checks.specs.Lent.{isPlaced}
+use Rattle.checks.specs.Tests.{isPlaced}
 use Rattle.checks.proofs.Passed.{sized}
 use Rattle.checks.proofs.Numbers.{no-outlet, too-many, not-all-placed, listed-twice, outlets-pass}
 use Rattle.checks.proofs.outlets_number.Statement.{statement}

@@ -1,5 +1,4 @@
--- `inflows::inflows_of` meets its contract: at an inner cell by that of `inner_inflows`, else by its loop. The loop's
--- invariant: the values before k are those of the record.
+-- `inflows::inflows_of` meets its contract. The loop's invariant: the values before k are those of the record.
 -- Assumes nothing.
 use mathlib.Core.Path.{_≡_}
 use Prim.Native.Nat.{ℕ, _+_, _-_, _*_, _<_, _≤_}
@@ -18,18 +17,6 @@ Inv-loop rows cols codes accumulation row col values₀ k₀ values k = (k ≤ 8
 
 abbrev μ-loop : tie.MeasureT-loop
 μ-loop rows cols codes accumulation row col values₀ k₀ values k = 8 - k
-
-is-inner-requires : tie.Need-is-inner-requires Inv-loop μ-loop
-is-inner-requires c κs =
-    let h = c .before .before .pre .on in
-    (h .row-in, h .col-in)
-
-inner-inflows-requires : tie.Need-inner-inflows-requires Inv-loop μ-loop
-inner-inflows-requires c κs =
-    record { has = c .before .before .before .before .pre; inner = c .before .is-inner .ensures (c .if1 .taken) }
-
-returns : tie.Need-returns Inv-loop μ-loop
-returns c = c .inner-inflows .ensures
 
 loop-holds : tie.Need-loop-holds Inv-loop μ-loop
 loop-holds c = search needs
@@ -52,7 +39,7 @@ loop-less c = search needs
 loop-again : tie.Need-loop-again Inv-loop μ-loop
 loop-again c =
     let s = c .before .before in
-    let a = c .before .before .before .before .before .before .before .args in
+    let a = c .before .before .before .before .before .args in
     let h : s .loop .k < length (s .loop .values) = search needs in (
       search needs,
       search needs,
@@ -60,8 +47,8 @@ loop-again c =
           (s .loop .values) _ _ h (s .loop .inv .2) (c .inflow-at .ensures),
     )
 
-returns-2 : tie.Need-returns-2 Inv-loop μ-loop
-returns-2 c =
+returns : tie.Need-returns Inv-loop μ-loop
+returns c =
     let v = c .before .loop .inv in
     record-is _ _ _ _ (v .1) (λ j h. v .2 j (omega arith))
 
@@ -71,9 +58,6 @@ inflows-of-spec =
     (tie.spec
     Inv-loop
     μ-loop
-    is-inner-requires
-    inner-inflows-requires
-    returns
     loop-holds
     inflow-at-requires
     mul-values
@@ -81,4 +65,4 @@ inflows-of-spec =
     add-k
     loop-less
     loop-again
-    returns-2)
+    returns)

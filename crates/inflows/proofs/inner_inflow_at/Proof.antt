@@ -1,4 +1,5 @@
--- `inflows::inner_inflow_at` meets its contract: the neighbour is on the grid, and its code tells the value.
+-- `inflows::inner_inflow_at` meets its contract: the neighbour is on the grid, and its code tells whether its number
+-- counts.
 -- Assumes nothing.
 use mathlib.Core.Path.{refl}
 use Prim.Native.Nat.{_+_, _-_, _*_, _<_}
@@ -53,29 +54,27 @@ sub-at-2 c = search needs
 add-at-3 : tie.Need-add-at-3
 add-at-3 c = omega (arith, reached (c .before), size (start (c .before) .pre .has .on .grid .sides))
 
+mul-value : tie.Need-mul-value
+mul-value c = omega (arith, reached (c .before), size (start (c .before) .pre .has .on .grid .sides))
+
+shared-slice-read-value : tie.Need-shared-slice-read-value
+shared-slice-read-value c =
+    let p = c .before .before in
+    omega (arith, reached p, start p .pre .has .has-accumulation)
+
 shared-slice-read-if1 : tie.Need-shared-slice-read-if1
 shared-slice-read-if1 c =
-    let p = c .before .before in
+    let p = c .before .before .before in
     omega (arith, reached p, start p .pre .has .on .grid .has-codes)
 
 returns : tie.Need-returns
 returns c =
-    let p = c .before .before .before in
+    let p = c .before .before .before .before in
     let s = start p in
     let n = p .before .neighbour-at .ensures in
     let o = s .pre .has .on in
     value-off (s .pre .has) (s .args .k)
     (inflow-away o (s .args .k) n (inner-spot o (s .pre .inner) (s .args .k) n) refl (c .if1 .taken)) refl
-
-mul-result : tie.Need-mul-result
-mul-result c =
-    let p = c .before .before .before in
-    omega (arith, reached p, size (start p .pre .has .on .grid .sides))
-
-shared-slice-read-result : tie.Need-shared-slice-read-result
-shared-slice-read-result c =
-    let p = c .before .before .before .before in
-    omega (arith, reached p, start p .pre .has .has-accumulation)
 
 returns-2 : tie.Need-returns-2
 returns-2 c =
@@ -84,7 +83,7 @@ returns-2 c =
     let n = p .before .neighbour-at .ensures in
     let o = s .pre .has .on in
     value-in (s .pre .has) (s .args .k)
-    (inflow-in o (s .args .k) n (inner-spot o (s .pre .inner) (s .args .k) n) refl (c .before .if1 .left)) refl
+    (inflow-in o (s .args .k) n (inner-spot o (s .pre .inner) (s .args .k) n) refl (c .if1 .left)) refl
 
 pub inner-inflow-at-spec : {M : Type 1} → statement M
 inner-inflow-at-spec =
@@ -97,8 +96,8 @@ inner-inflow-at-spec =
     add-at-2
     sub-at-2
     add-at-3
+    mul-value
+    shared-slice-read-value
     shared-slice-read-if1
     returns
-    mul-result
-    shared-slice-read-result
     returns-2)

@@ -1,4 +1,4 @@
--- `inflows::inner_inflows` meets its contract, as `inflows_of` does at a border.
+-- `inflows::inner_inflows` meets its contract, as `inflows_of` does.
 -- Assumes nothing.
 use mathlib.Core.Path.{_≡_}
 use Prim.Native.Nat.{ℕ, _+_, _-_, _*_, _<_, _≤_}

@@ -1,4 +1,4 @@
--- `checks::agrees_at` meets its contract: a null cell has 0, any other 1 more than the sum of its inflow record.
+-- `agreement::agrees_at` meets its contract: a null cell has 0, any other 1 more than the sum of its inflow record.
 -- Assumes nothing.
 use mathlib.Core.Path.{_≡_, _∙_}
 use Prim.Native.Nat.{_+_, _*_}
@@ -6,9 +6,10 @@ use native.Mathlib.Omega.{arith}
 use borrow.Author.Needs.{needs}
 use Rattle.lists.specs.Lists.{sumOf}
 use Rattle.ground.specs.Grid.{gridOf, inflowRecord}
-use Rattle.checks.proofs.Cells.{null-agrees, ground-agrees, record-small, inside}
-use Rattle.checks.proofs.agrees_at.Statement.{statement}
-use Rattle.checks.proofs.agrees_at.Tie as tie
+use Rattle.agreement.proofs.Cells.{null-agrees, ground-agrees, inside}
+use Rattle.agreement.proofs.Sums.{record-small}
+use Rattle.agreement.proofs.agrees_at.Statement.{statement}
+use Rattle.agreement.proofs.agrees_at.Tie as tie
 
 mul-at : tie.Need-mul-at
 mul-at c = omega (arith, inside (c .before .before .pre))
