@@ -18,8 +18,8 @@ fn main() {
             println!("cargo::rustc-link-lib=static=host");
         }
         _ => panic!(
-            "there is no libhost.a in {dir}: `rt staticlib host` makes it, in target/staticlib, and \
-             JINXBANYAN_LIB_DIR may name another directory"
+            "there is no libhost.a in {dir}: `rt staticlib host` makes it, in target/staticlib, \
+             and JINXBANYAN_LIB_DIR may name another directory"
         ),
     }
 }

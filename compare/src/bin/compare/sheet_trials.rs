@@ -41,7 +41,8 @@ fn small_sheets(comparison: &mut Comparison) {
             }
         }
         println!(
-            "{} bytes of a small sheet, each changed to every other: {refused} refused, {another} read as another sheet",
+            "{} bytes of a small sheet, each changed to every other: {refused} refused, \
+             {another} read as another sheet",
             file.len()
         );
         for more in 0..=255 {
