@@ -1,9 +1,7 @@
-//! Builds the plain C and links it and the host library.
-//!
-//! `JINXBANYAN_LIB_DIR` names the directory of `libhost.a`; `../target/staticlib` if not given.
+//! Builds the plain C and links it.
 
 use std::env;
-use std::path::{Path, PathBuf};
+use std::path::PathBuf;
 use std::process::Command;
 
 const FLAGS: &str = "-O3";
@@ -25,15 +23,6 @@ fn main() {
     run(Command::new("ar").arg("crs").arg(&archive).args(&objects));
     println!("cargo::rustc-link-search=native={}", out.display());
     println!("cargo::rustc-link-lib=static=plain");
-
-    println!("cargo::rerun-if-env-changed=JINXBANYAN_LIB_DIR");
-    let dir = env::var("JINXBANYAN_LIB_DIR").unwrap_or("../target/staticlib".to_string());
-    let host = match Path::new(&dir).join("libhost.a").canonicalize() {
-        Ok(host) => host,
-        Err(error) => panic!("the host library in {dir}: {error}"),
-    };
-    println!("cargo::rerun-if-changed={}", host.display());
-    println!("cargo::rustc-link-arg-bins={}", host.display());
 
     println!("cargo::rustc-env=GCC={} {FLAGS}", first_line(Command::new("gcc").arg("--version")));
     let rustc = env::var_os("RUSTC").expect("cargo tells it");

@@ -1,6 +1,7 @@
 //! The grounds that are measured. Each has one mouth, to which all its cells flow.
 
 use second_reading::ground::{Ground, NEIGHBOURS};
+use second_reading::random::Random;
 
 pub struct Field {
     pub rows: usize,
@@ -13,33 +14,8 @@ pub type Kind = (&'static str, fn(usize) -> Field);
 pub const KINDS: [Kind; 4] =
     [("fractal", fractal), ("comb", comb), ("serpent", serpent), ("nulls", nulls)];
 
-const SEED: u64 = 0x6A69_6E78_6261_6E79;
-
-/// Numbers from a seed (splitmix64).
-pub struct Random(u64);
-
-impl Random {
-    pub fn new() -> Self {
-        Random(SEED)
-    }
-
-    fn next(&mut self) -> u64 {
-        self.0 = self.0.wrapping_add(0x9E37_79B9_7F4A_7C15);
-        let mut z = self.0;
-        z = (z ^ (z >> 30)).wrapping_mul(0xBF58_476D_1CE4_E5B9);
-        z = (z ^ (z >> 27)).wrapping_mul(0x94D0_49BB_1331_11EB);
-        z ^ (z >> 31)
-    }
-
-    pub fn below(&mut self, bound: usize) -> usize {
-        ((u128::from(self.next()) * bound as u128) >> 64) as usize
-    }
-
-    /// From 0 up to 1.
-    fn part(&mut self) -> f32 {
-        (self.next() >> 40) as f32 / (1 << 24) as f32
-    }
-}
+/// The seed of every ground, and of the outlets on it.
+pub const SEED: u64 = 0x6A69_6E78_6261_6E79;
 
 impl Field {
     pub fn cells(&self) -> usize {
@@ -110,7 +86,7 @@ pub fn fractal(side: usize) -> Field {
 
 /// The same with one cell in 20 null. Cells that are cut off are null too.
 pub fn nulls(side: usize) -> Field {
-    let mut random = Random::new();
+    let mut random = Random::new(SEED);
     let null: Vec<bool> = (0..side * side).map(|_| random.below(20) == 0).collect();
     flooded(side, &null)
 }
@@ -159,7 +135,7 @@ fn flooded(side: usize, null: &[bool]) -> Field {
 }
 
 fn levels(side: usize) -> Vec<usize> {
-    let mut random = Random::new();
+    let mut random = Random::new(SEED);
     let slope = |cell: usize| SLOPE * (side - cell / side) as f32 / side as f32;
     let mut heights: Vec<f32> = (0..side * side).map(slope).collect();
     let (mut reach, mut strength) = (side / 2, 1f32);

@@ -6,10 +6,10 @@
 //! * `bench aims` measures only what is aimed at: large fractal ground, without Rust, more often.
 
 mod grounds;
-mod host;
 mod measure;
+mod memory;
 mod plain;
-mod room;
+mod stacks;
 mod tables;
 mod trials;
 
@@ -41,7 +41,7 @@ fn main() -> ExitCode {
         ["quick"] => || bench(&SIZES[..2]),
         ["aims"] => aims,
         ["memory", who, work] => {
-            room::memory_of(who, work);
+            memory::memory_of(who, work);
             return ExitCode::SUCCESS;
         }
         _ => {
@@ -58,7 +58,7 @@ fn main() -> ExitCode {
 
 fn bench(sizes: &[(usize, Runs)]) {
     machine(sizes);
-    let memory = room::memory();
+    let memory = memory::memory();
     let mut clock = Clock::default();
     let measured: Vec<Size> =
         sizes.iter().map(|&size| measure(size, &grounds::KINDS, &mut clock)).collect();
@@ -70,7 +70,7 @@ fn bench(sizes: &[(usize, Runs)]) {
     tables::growth(&measured);
     tables::times(largest);
     memory.print();
-    room::stacks();
+    stacks::stacks();
     noise(&clock.bests);
 }
 

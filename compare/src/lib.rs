@@ -19,11 +19,14 @@
 //! | [`entries`] | the grid entries, their checks and what they leave |
 //! | [`sheet`] | reading and writing the sheet file |
 //! | [`desk`] | the desk program's whole output |
+//!
+//! [`random`] is no part of it: numbers from a seed, for the programs that try this reading.
 
 pub mod desk;
 pub mod entries;
 pub mod ground;
 pub mod lengths;
+pub mod random;
 pub mod search;
 pub mod sheet;
 pub mod subwatershed;

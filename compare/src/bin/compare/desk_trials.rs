@@ -8,8 +8,8 @@ use std::time::Duration;
 use second_reading::desk;
 use second_reading::sheet::sheet;
 
-use crate::random::Random;
 use crate::sheet_files::{any_sheet, edges, worsen};
+use second_reading::random::Random;
 
 /// Runs the program on every sheet. The first difference ends it.
 pub fn run(program: &str, seed: u64) -> ExitCode {

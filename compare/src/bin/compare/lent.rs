@@ -1,8 +1,9 @@
 //! Slices lent to the host library, each between two fences.
 
 use std::fmt::Display;
+use std::hint::black_box;
 
-use crate::random::Random;
+use second_reading::random::Random;
 
 /// Elements of a fence. An odd number, so that bytes are lent at odd places.
 const FENCE: usize = 17;
@@ -15,7 +16,7 @@ pub trait Element: Copy + PartialEq + Display {
 impl Element for u8 {
     /// Mostly a code that would be believed if it were read.
     fn noise(random: &mut Random) -> u8 {
-        let bits = random.next();
+        let bits = random.bits();
         if bits & 3 == 0 {
             (bits >> 8) as u8
         } else {
@@ -26,7 +27,7 @@ impl Element for u8 {
 
 impl Element for u32 {
     fn noise(random: &mut Random) -> u32 {
-        random.next() as u32
+        random.bits() as u32
     }
 }
 
@@ -55,22 +56,34 @@ impl<T: Element> Lent<T> {
         Lent { store: [before, contents, after].concat(), fences }
     }
 
-    pub fn pointer(&mut self) -> *mut T {
-        self.store[FENCE..].as_mut_ptr()
+    /// The slice, to be read.
+    pub fn slice(&self) -> &[T] {
+        &self.store[FENCE..self.store.len() - FENCE]
     }
 
-    pub fn count(&self) -> usize {
-        self.store.len() - 2 * FENCE
+    /// The slice, to be written.
+    pub fn slice_mut(&mut self) -> &mut [T] {
+        let end = self.store.len() - FENCE;
+        &mut self.store[FENCE..end]
+    }
+
+    /// The slice as a place for so many results.
+    pub fn array_mut<const N: usize>(&mut self) -> &mut [T; N] {
+        self.slice_mut().try_into().expect("a place for each result")
     }
 
     /// The first difference from what is due, fences included.
     pub fn difference(&self, due: &[T]) -> Option<Difference> {
+        // The compiler may take it for granted that a call changes neither a slice that it was
+        // lent to read nor a fence. Just that is in question, so it must not know that what is
+        // compared here is what was lent there.
+        let store = black_box(self.store.as_slice());
         let (before, after) = self.fences.split_at(FENCE);
         let inner = FENCE..FENCE + due.len();
         let parts = [
-            (&self.store[..inner.start], before, 0),
-            (&self.store[inner.clone()], due, inner.start),
-            (&self.store[inner.end..], after, inner.end),
+            (&store[..inner.start], before, 0),
+            (&store[inner.clone()], due, inner.start),
+            (&store[inner.end..], after, inner.end),
         ];
         for (found, due, from) in parts {
             if found != due {

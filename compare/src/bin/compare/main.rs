@@ -8,32 +8,26 @@
 //!
 //! The status is 0 if nothing differs, 1 if something does or a number was
 //! never seen, 2 if the program was not asked rightly.
-#![cfg_attr(not(host_linked), allow(dead_code))]
 
-#[cfg(host_linked)]
 mod calls;
 mod desk_trials;
-#[cfg(host_linked)]
 mod edge_trials;
-#[cfg(host_linked)]
 mod grid_trials;
 mod grounds;
-#[cfg(host_linked)]
-mod host;
-#[cfg(host_linked)]
 mod lent;
-mod random;
 mod sheet_files;
-#[cfg(host_linked)]
 mod sheet_trials;
-#[cfg(host_linked)]
 mod tally;
-#[cfg(host_linked)]
 mod trap_trials;
 
 use std::env;
 use std::process::ExitCode;
 use std::thread;
+use std::time::Instant;
+
+use second_reading::random::Random;
+
+use calls::Comparison;
 
 /// The seed of everything tried.
 const SEED: u64 = 0x4A69_6E78_6261_6E79;
@@ -66,20 +60,11 @@ enum Asked {
     Desk(String),
 }
 
-#[cfg(not(host_linked))]
-fn compare_calls(_follow: bool) -> ExitCode {
-    eprintln!("built without the host library: set JINXBANYAN_LIB_DIR and build again");
-    ExitCode::from(2)
-}
-
-#[cfg(host_linked)]
 fn compare_calls(follow: bool) -> ExitCode {
-    use std::time::Instant;
-
     let begun = Instant::now();
-    let mut comparison = calls::Comparison::new(SEED, follow);
-    let mut random = random::Random::new(SEED);
-    type Part = (&'static str, fn(&mut calls::Comparison, &mut random::Random));
+    let mut comparison = Comparison::new(SEED, follow);
+    let mut random = Random::new(SEED);
+    type Part = (&'static str, fn(&mut Comparison, &mut Random));
     let parts: [Part; 10] = [
         ("traps", |comparison, _| trap_trials::run(comparison)),
         ("sheets", sheet_trials::run),

@@ -3,7 +3,7 @@
 use second_reading::sheet::sheet;
 
 use crate::grounds::{self, Grid};
-use crate::random::Random;
+use second_reading::random::Random;
 
 /// A grid with a list of outlets. Null and repeated outlets are among them at
 /// times, and rings.
@@ -42,12 +42,12 @@ pub fn worsen(file: &mut Vec<u8>, random: &mut Random) {
         }
         match random.below(9) {
             0 => file.truncate(at),
-            1 => file[at] = random.next() as u8,
+            1 => file[at] = random.bits() as u8,
             2 => file[at] ^= 1 << random.below(8),
             3 => {
                 file.remove(at);
             }
-            4 => file.insert(at, random.next() as u8),
+            4 => file.insert(at, random.bits() as u8),
             5 => file.push(random.pick(&[0, 0x45, 0x4F, 0x52])),
             6 => {
                 let end = (at + random.between(1, 12)).min(file.len());

@@ -3,8 +3,8 @@
 use second_reading::sheet::sheet;
 
 use crate::calls::Comparison;
-use crate::random::Random;
 use crate::sheet_files::{any_catchment, any_sheet, edges, worsen};
+use second_reading::random::Random;
 
 pub fn run(comparison: &mut Comparison, random: &mut Random) {
     small_sheets(comparison);
@@ -41,7 +41,8 @@ fn small_sheets(comparison: &mut Comparison) {
             }
         }
         println!(
-            "{} bytes of a small sheet, each changed to every other: {refused} refused, {another} read as another sheet",
+            "{} bytes of a small sheet, each changed to every other: {refused} refused, \
+             {another} read as another sheet",
             file.len()
         );
         for more in 0..=255 {

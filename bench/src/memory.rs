@@ -1,15 +1,15 @@
-//! Memory and stack that the calls take.
+//! Memory that the calls take.
 
 use std::env;
 use std::process::Command;
 
 use second_reading::entries::{self, Terrain};
 
-use crate::grounds::{comb, serpent};
-use crate::measure::{peak, stack};
-use crate::tables::{grouped, table};
-use crate::trials::{accepted, largest, LIST, MOST_BY_RECURSION};
-use crate::{host, plain};
+use crate::grounds::comb;
+use crate::measure::peak;
+use crate::plain;
+use crate::tables::table;
+use crate::trials::{accepted, LIST};
 
 /// The side of the comb on which memory is measured.
 const SIDE: usize = 4096;
@@ -61,13 +61,13 @@ pub fn memory_of(who: &str, work: &str) {
     let mut accumulation = grid();
     let mut lent = 5 * cells;
     if work != "accumulate" {
-        accepted(host::accumulate(SIDE, SIDE, &field.codes, &mut accumulation));
+        accepted(jinxbanyan::accumulate(SIDE, SIDE, &field.codes, &mut accumulation));
     }
     let outlets = [(SIDE * (SIDE - 1) + SIDE / 2) as u32];
     let codes = &field.codes[..];
     match (who, work) {
         ("library", "accumulate") => {
-            accepted(host::accumulate(SIDE, SIDE, codes, &mut accumulation));
+            accepted(jinxbanyan::accumulate(SIDE, SIDE, codes, &mut accumulation));
         }
         ("plain C", "accumulate") => {
             accepted(plain::look_around(SIDE, SIDE, codes, &mut accumulation));
@@ -79,7 +79,7 @@ pub fn memory_of(who: &str, work: &str) {
             let terrain = Terrain { rows: SIDE, cols: SIDE, codes, accumulation: &accumulation };
             lent += match (who, work) {
                 ("library", "check 14") => {
-                    accepted(host::check_accumulation(terrain));
+                    accepted(jinxbanyan::check_accumulation(SIDE, SIDE, codes, &accumulation));
                     0
                 }
                 ("plain C", "check 14") => {
@@ -91,7 +91,14 @@ pub fn memory_of(who: &str, work: &str) {
                     0
                 }
                 ("library", "subaccumulate") => {
-                    accepted(host::subaccumulate(terrain, &outlets, &mut grid()));
+                    accepted(jinxbanyan::subaccumulate(
+                        SIDE,
+                        SIDE,
+                        codes,
+                        &accumulation,
+                        &outlets,
+                        &mut grid(),
+                    ));
                     4 * cells
                 }
                 ("plain C", "subaccumulate") => {
@@ -104,11 +111,19 @@ pub fn memory_of(who: &str, work: &str) {
                     4 * cells
                 }
                 ("library", "trace by stack") => {
-                    let (mut starts, mut work) = (vec![1; LIST], vec![1; 3 * cells]);
-                    let (grid, starts) = (&mut grid()[..], &mut starts[..]);
-                    let (number, _) =
-                        host::trace_by_stack(terrain, &outlets, 0, false, grid, starts, &mut work);
-                    accepted(number);
+                    accepted(jinxbanyan::trace_by_stack(
+                        SIDE,
+                        SIDE,
+                        codes,
+                        &accumulation,
+                        &outlets,
+                        0,
+                        false,
+                        &mut grid(),
+                        &mut vec![1; LIST],
+                        &mut vec![1; 3 * cells],
+                        &mut [0; 5],
+                    ));
                     16 * cells + 4 * LIST
                 }
                 ("plain C", "trace by stack") => {
@@ -127,7 +142,17 @@ pub fn memory_of(who: &str, work: &str) {
                     17 * cells + 4 * LIST
                 }
                 ("library", "draw") => {
-                    accepted(host::draw(terrain, &outlets, 0, 0, &mut grid()).0);
+                    accepted(jinxbanyan::draw(
+                        SIDE,
+                        SIDE,
+                        codes,
+                        &accumulation,
+                        &outlets,
+                        0,
+                        0,
+                        &mut grid(),
+                        &mut [0],
+                    ));
                     4 * cells
                 }
                 ("plain C", "draw") => {
@@ -144,65 +169,4 @@ pub fn memory_of(who: &str, work: &str) {
         }
     }
     println!("{} {}", lent >> 20, peak() >> 20);
-}
-
-/// The stack that each call takes on a serpent, its outlet the lowest cell that has 4,096 at most.
-pub fn stacks() {
-    println!("### Stack, serpent, bytes\n");
-    let mut columns = Vec::new();
-    for side in [64, 1024] {
-        columns.push(stacks_of(side));
-    }
-    let rows: Vec<Vec<String>> = (0..columns[0].len())
-        .map(|row| {
-            let (work, bytes) = columns[0][row];
-            let more = columns[1][row].1;
-            vec![work.to_string(), grouped(bytes), grouped(more)]
-        })
-        .collect();
-    table(1, &["call of the library", "64²", "1,024²"], &rows);
-    let recursion = columns[0].last().expect("a row").1;
-    println!(
-        "Recursion takes {} bytes for each of {} cells of one walk.\n",
-        recursion / MOST_BY_RECURSION as usize,
-        grouped(MOST_BY_RECURSION as usize)
-    );
-}
-
-fn stacks_of(side: usize) -> Vec<(&'static str, usize)> {
-    let field = serpent(side);
-    let cells = field.cells();
-    let mut accumulation = vec![1; cells];
-    let accumulate = stack(|| {
-        accepted(host::accumulate(side, side, &field.codes, &mut accumulation));
-    });
-    let codes = &field.codes[..];
-    let terrain = Terrain { rows: side, cols: side, codes, accumulation: &accumulation };
-    let outlets = [largest(&accumulation, MOST_BY_RECURSION)];
-    let (mut grid, mut starts, mut work) = (vec![1; cells], [1; LIST], vec![1; 3 * cells]);
-    let mut measured = vec![
-        ("accumulate", accumulate),
-        ("check 14", stack(|| accepted(host::check_accumulation(terrain)))),
-        ("subaccumulate", stack(|| accepted(host::subaccumulate(terrain, &outlets, &mut grid)))),
-        ("draw", stack(|| accepted(host::draw(terrain, &outlets, 0, 0, &mut work).0))),
-    ];
-    for (name, dropping) in [("trace by stack", false), ("trace by stack, dropping", true)] {
-        let bytes = stack(|| {
-            let (grid, starts) = (&mut grid, &mut starts);
-            let traced =
-                host::trace_by_stack(terrain, &outlets, 0, dropping, grid, starts, &mut work);
-            accepted(traced.0);
-        });
-        measured.push((name, bytes));
-    }
-    for (name, dropping) in [("trace by recursion", false), ("trace by recursion, dropping", true)]
-    {
-        let bytes = stack(|| {
-            let (grid, starts) = (&mut grid, &mut starts);
-            let traced = host::trace_by_recursion(terrain, &outlets, 0, dropping, grid, starts);
-            accepted(traced.0);
-        });
-        measured.push((name, bytes));
-    }
-    measured
 }

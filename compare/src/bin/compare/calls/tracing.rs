@@ -1,0 +1,125 @@
+//! Tracing by either engine.
+
+use second_reading::entries::{self, Terrain};
+
+use super::Comparison;
+use crate::tally::Entry;
+
+#[derive(Clone, Copy, Debug, PartialEq, Eq)]
+pub enum Engine {
+    Stack,
+    Recursion,
+}
+
+/// What a tracing call asks.
+#[derive(Clone, Copy)]
+pub struct Ask<'a> {
+    pub terrain: Terrain<'a>,
+    pub outlets: &'a [u32],
+    pub place: usize,
+    pub dropping: u32,
+}
+
+/// The places that a tracing call lends: subaccumulation grid, list of starts
+/// and working space, which recursion goes without.
+#[derive(Clone, Copy)]
+pub struct Rooms {
+    pub grid: usize,
+    pub list: usize,
+    pub work: usize,
+}
+
+/// What a tracing call gave, alike on both sides.
+pub struct Traced {
+    pub number: u32,
+    pub results: [u32; 5],
+    pub grid: Vec<u32>,
+    pub list: Vec<u32>,
+}
+
+impl Comparison {
+    pub fn trace(&mut self, engine: Engine, ask: Ask, rooms: Rooms) -> Traced {
+        let Ask { terrain, outlets, place, dropping } = ask;
+        let Terrain { rows, cols, codes, accumulation } = terrain;
+        let codes = self.input("codes", codes);
+        let accumulation = self.input("accumulation", accumulation);
+        let outlets = self.input("outlets", outlets);
+        let mut grid = self.output("subaccumulation", rooms.grid);
+        let mut starts = self.output("starts", rooms.list);
+        let mut work = self.output("work", rooms.work);
+        let mut results = self.output("results", 5);
+        let (tracing, found) = match engine {
+            Engine::Stack => {
+                let tracing = entries::trace_by_stack(
+                    terrain,
+                    outlets.contents,
+                    place,
+                    dropping != 0,
+                    &mut grid.due,
+                    &mut starts.due,
+                    &mut work.due,
+                );
+                let found = self.on_small_stack(codes.contents.len(), || {
+                    jinxbanyan::trace_by_stack(
+                        rows,
+                        cols,
+                        codes.lent.slice(),
+                        accumulation.lent.slice(),
+                        outlets.lent.slice(),
+                        place,
+                        dropping,
+                        grid.lent.slice_mut(),
+                        starts.lent.slice_mut(),
+                        work.lent.slice_mut(),
+                        results.lent.array_mut(),
+                    )
+                });
+                (tracing, found)
+            }
+            Engine::Recursion => {
+                let tracing = entries::trace_by_recursion(
+                    terrain,
+                    outlets.contents,
+                    place,
+                    dropping != 0,
+                    &mut grid.due,
+                    &mut starts.due,
+                );
+                let found = self.on_small_stack(codes.contents.len(), || {
+                    jinxbanyan::trace_by_recursion(
+                        rows,
+                        cols,
+                        codes.lent.slice(),
+                        accumulation.lent.slice(),
+                        outlets.lent.slice(),
+                        place,
+                        dropping,
+                        grid.lent.slice_mut(),
+                        starts.lent.slice_mut(),
+                        results.lent.array_mut(),
+                    )
+                });
+                (tracing, found)
+            }
+        };
+        results.due = tracing.results().to_vec();
+        self.settle(
+            match (engine, dropping) {
+                (Engine::Stack, 0) => Entry::TraceByStack,
+                (Engine::Stack, _) => Entry::TraceByStackDropping,
+                (Engine::Recursion, 0) => Entry::TraceByRecursion,
+                (Engine::Recursion, _) => Entry::TraceByRecursionDropping,
+            },
+            format_args!("rows {rows} cols {cols} place {place} dropping {dropping}"),
+            &[&codes, &accumulation, &outlets, &grid, &starts, &work, &results],
+            tracing.number(),
+            found,
+        );
+        Traced {
+            number: tracing.number(),
+            results: tracing.results(),
+            grid: grid.due,
+            list: starts.due,
+        }
+    }
+}

@@ -1,0 +1,158 @@
+//! One case, and the calls made of it.
+
+use second_reading::entries::Terrain;
+use second_reading::ground::Ground;
+use second_reading::random::Random;
+use second_reading::subwatershed::Division;
+
+use crate::calls::{Ask, Comparison, Engine, Rooms};
+use crate::grounds::Grid;
+
+/// Everything that the grid entries take, for one outlet and one start.
+#[derive(Clone)]
+pub struct Case {
+    pub rows: usize,
+    pub cols: usize,
+    pub codes: Vec<u8>,
+    pub accumulation: Vec<u32>,
+    pub outlets: Vec<u32>,
+    pub place: usize,
+    pub start: u32,
+    /// Places of the written grid, accumulation or subaccumulation.
+    pub grid_room: usize,
+    pub list_room: usize,
+    pub work_room: usize,
+    pub path_room: usize,
+}
+
+impl Case {
+    /// A case with all rooms just as large as they must be, if the grid is
+    /// free of rings and the list of outlets is sound.
+    pub fn new(
+        grid: &Grid,
+        accumulation: &[u32],
+        outlets: &[u32],
+        place: usize,
+        start: u32,
+    ) -> Case {
+        let mut case = Case {
+            rows: grid.rows,
+            cols: grid.cols,
+            codes: grid.codes.clone(),
+            accumulation: accumulation.to_vec(),
+            outlets: outlets.to_vec(),
+            place,
+            start,
+            grid_room: grid.cells(),
+            list_room: 1,
+            work_room: 3 * grid.cells(),
+            path_room: grid.cells(),
+        };
+        if !grid.ground().has_ring() && place < outlets.len() {
+            let division = Division::new(grid.ground(), outlets);
+            let outlet = outlets[place] as usize;
+            case.list_room = division.longest(outlet).starts.len();
+            case.work_room = 3 * division.subaccumulation()[outlet] as usize;
+            if division.belongs(start as usize, outlet) {
+                case.path_room = division.path(start as usize, outlet).len();
+            }
+        }
+        case
+    }
+
+    fn terrain(&self) -> Terrain<'_> {
+        Terrain {
+            rows: self.rows,
+            cols: self.cols,
+            codes: &self.codes,
+            accumulation: &self.accumulation,
+        }
+    }
+
+    fn ask(&self, dropping: u32) -> Ask<'_> {
+        Ask { terrain: self.terrain(), outlets: &self.outlets, place: self.place, dropping }
+    }
+
+    fn rooms(&self) -> Rooms {
+        Rooms { grid: self.grid_room, list: self.list_room, work: self.work_room }
+    }
+
+    /// Both engines, with and without dropping.
+    fn trace(&self, comparison: &mut Comparison, rooms: Rooms, random: &mut Random) {
+        let yes = random.pick(&[1, 1, 2, 256, 1 << 31, u32::MAX]);
+        for engine in [Engine::Stack, Engine::Recursion] {
+            for dropping in [0, yes] {
+                comparison.trace(engine, self.ask(dropping), rooms);
+            }
+        }
+    }
+
+    fn draw(&self, comparison: &mut Comparison, start: u32, room: usize) -> (u32, Vec<u32>) {
+        comparison.draw(self.terrain(), &self.outlets, self.place, start, room)
+    }
+
+    pub fn every_entry(&self, comparison: &mut Comparison, random: &mut Random) {
+        comparison.accumulate(self.rows, self.cols, &self.codes, self.grid_room);
+        comparison.check_accumulation(self.terrain());
+        comparison.subaccumulate(self.terrain(), &self.outlets, self.grid_room);
+        self.trace(comparison, self.rooms(), random);
+        self.draw(comparison, self.start, self.path_room);
+    }
+
+    pub fn any_cell(&self, random: &mut Random) -> usize {
+        random.below(self.codes.len().max(1))
+    }
+
+    /// The first, the last or any place of a list, if it has places.
+    pub fn any_place(count: usize, random: &mut Random) -> Option<usize> {
+        let any = random.below(count.max(1));
+        let place = random.pick(&[0, count.wrapping_sub(1), any, any]);
+        (place < count).then_some(place)
+    }
+}
+
+/// List and working space at, below and above what is needed.
+pub fn around_needs(comparison: &mut Comparison, case: &Case, effort: usize, random: &mut Random) {
+    let need = case.list_room;
+    let mut lists = vec![0, 1, need - 1, need / 2, need + 1, need + 7];
+    lists.sort();
+    lists.dedup();
+    random.shuffle(&mut lists);
+    for list in lists.into_iter().filter(|&list| list != need).take(effort) {
+        case.trace(comparison, Rooms { list, ..case.rooms() }, random);
+    }
+    let need = case.work_room;
+    let mut works = vec![0, 1, need - 1, need / 3, need / 3 * 2, need + 1, need + 30];
+    random.shuffle(&mut works);
+    for work in works.into_iter().take(effort) {
+        let list = random.pick(&[case.list_room, case.list_room - 1]);
+        for dropping in [0, 1] {
+            let rooms = Rooms { work, list, ..case.rooms() };
+            comparison.trace(Engine::Stack, case.ask(dropping), rooms);
+        }
+    }
+}
+
+/// Drawing from sound and odd starts, with places at, below and above what is
+/// needed.
+pub fn drawings(comparison: &mut Comparison, case: &Case, effort: usize, random: &mut Random) {
+    let cells = case.codes.len() as u32;
+    let outlet = case.outlets[case.place];
+    let ground = Ground::new(case.rows, case.cols, &case.codes);
+    let mut starts: Vec<u32> = if cells <= 16 {
+        (0..cells + 2).collect()
+    } else {
+        (0..4 * effort).map(|_| random.below(cells as usize) as u32).collect()
+    };
+    starts.extend([cells, u32::MAX, outlet | 1 << 31, random.pick(&case.outlets)]);
+    starts.extend(ground.below(outlet as usize).map(|cell| cell as u32));
+    starts.extend(ground.inflows(outlet as usize).map(|(_, cell)| cell as u32));
+    for start in starts {
+        let (number, path) = case.draw(comparison, start, case.codes.len() + 1);
+        if number == 0 {
+            let need = path.len();
+            let room = random.pick(&[0, need - 1, need, need + 1]);
+            case.draw(comparison, start, room);
+        }
+    }
+}

@@ -1,0 +1,76 @@
+//! Grids larger than a sheet.
+
+use second_reading::entries::Terrain;
+use second_reading::random::Random;
+
+use super::accumulations::nearly_agreeing;
+use super::case::Case;
+use super::damages::damaged;
+use crate::calls::{Ask, Comparison, Engine, Rooms};
+use crate::grounds::{self, Grid};
+
+/// A few grids larger than a sheet, each with few calls.
+pub fn larger_grids(comparison: &mut Comparison, random: &mut Random) {
+    let grids = [
+        grounds::forest(1, 4096, random),
+        grounds::forest(4096, 1, random),
+        grounds::serpent(1, 4096, random),
+        grounds::noise(1, 4096, random),
+        grounds::drainage(4096, 2, random),
+        grounds::valleys(65, 64, random),
+        grounds::valleys(64, 65, random),
+        grounds::fan(80, 70, random),
+        grounds::comb(100, 90, random).transposed(),
+        grounds::serpent(150, 100, random),
+        grounds::slope(120, 120, random),
+        grounds::noise(300, 200, random),
+        grounds::valleys(300, 200, random),
+        grounds::valleys(200, 300, random),
+        grounds::valleys(1024, 1024, random),
+    ];
+    for grid in grids {
+        comparison.about(format!("larger {} {} x {}", grid.kind, grid.rows, grid.cols));
+        let ground = grid.ground();
+        let accumulation = nearly_agreeing(ground);
+        let mut solid: Vec<u32> = ground.solid().map(|cell| cell as u32).collect();
+        let mouth = *solid.iter().max_by_key(|&&cell| accumulation[cell as usize]).expect("solid");
+        random.shuffle(&mut solid);
+        solid.truncate(255);
+        let mut many: Vec<u32> = solid.iter().copied().filter(|&cell| cell != mouth).collect();
+        many.push(mouth);
+        if grid.cells() > 100_000 {
+            once(comparison, &grid, &accumulation, &many, random);
+            continue;
+        }
+        for outlets in [vec![mouth], many] {
+            let place = outlets.len() - 1;
+            let start = random.pick(&solid);
+            let case = Case::new(&grid, &accumulation, &outlets, place, start);
+            case.every_entry(comparison, random);
+            if grid.cells() < 7000 {
+                damaged(comparison, &case, 3, random);
+            }
+        }
+    }
+}
+
+/// Each entry once for the last outlet, tracing with dropping.
+fn once(
+    comparison: &mut Comparison,
+    grid: &Grid,
+    accumulation: &[u32],
+    outlets: &[u32],
+    random: &mut Random,
+) {
+    let cells = grid.cells();
+    let terrain = Terrain { rows: grid.rows, cols: grid.cols, codes: &grid.codes, accumulation };
+    comparison.accumulate(grid.rows, grid.cols, &grid.codes, cells);
+    comparison.check_accumulation(terrain);
+    comparison.subaccumulate(terrain, outlets, cells);
+    let place = outlets.len() - 1;
+    let ask = Ask { terrain, outlets, place, dropping: 1 };
+    let rooms = Rooms { grid: cells, list: 100, work: 3 * cells };
+    let traced = comparison.trace(Engine::Stack, ask, rooms);
+    comparison.draw(terrain, outlets, place, traced.list[0], cells);
+    comparison.trace(Engine::Recursion, Ask { place: random.below(outlets.len()), ..ask }, rooms);
+}

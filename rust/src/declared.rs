@@ -1,0 +1,114 @@
+//! The functions of `include/jinxbanyan.h`: its names, its arguments, its order.
+//!
+//! They are for callers that have pointers; those with slices find the same at the root, safe. A
+//! pointer is not null even where its count is 0, and of the slices of one call none overlaps
+//! another.
+
+extern "C" {
+    pub fn jb_accumulate(
+        rows: usize,
+        cols: usize,
+        codes: *const u8,
+        codes_count: usize,
+        accumulation: *mut u32,
+        accumulation_count: usize,
+    ) -> u32;
+
+    pub fn jb_check_accumulation(
+        rows: usize,
+        cols: usize,
+        codes: *const u8,
+        codes_count: usize,
+        accumulation: *const u32,
+        accumulation_count: usize,
+    ) -> u32;
+
+    pub fn jb_subaccumulate(
+        rows: usize,
+        cols: usize,
+        codes: *const u8,
+        codes_count: usize,
+        accumulation: *const u32,
+        accumulation_count: usize,
+        outlets: *const u32,
+        outlets_count: usize,
+        subaccumulation: *mut u32,
+        subaccumulation_count: usize,
+    ) -> u32;
+
+    pub fn jb_trace_by_stack(
+        rows: usize,
+        cols: usize,
+        codes: *const u8,
+        codes_count: usize,
+        accumulation: *const u32,
+        accumulation_count: usize,
+        outlets: *const u32,
+        outlets_count: usize,
+        place: usize,
+        dropping: u32,
+        subaccumulation: *mut u32,
+        subaccumulation_count: usize,
+        starts: *mut u32,
+        starts_count: usize,
+        work: *mut u32,
+        work_count: usize,
+        results: *mut [u32; 5],
+    ) -> u32;
+
+    pub fn jb_trace_by_recursion(
+        rows: usize,
+        cols: usize,
+        codes: *const u8,
+        codes_count: usize,
+        accumulation: *const u32,
+        accumulation_count: usize,
+        outlets: *const u32,
+        outlets_count: usize,
+        place: usize,
+        dropping: u32,
+        subaccumulation: *mut u32,
+        subaccumulation_count: usize,
+        starts: *mut u32,
+        starts_count: usize,
+        results: *mut [u32; 5],
+    ) -> u32;
+
+    pub fn jb_draw(
+        rows: usize,
+        cols: usize,
+        codes: *const u8,
+        codes_count: usize,
+        accumulation: *const u32,
+        accumulation_count: usize,
+        outlets: *const u32,
+        outlets_count: usize,
+        place: usize,
+        start: u32,
+        path: *mut u32,
+        path_count: usize,
+        drawn: *mut [u32; 1],
+    ) -> u32;
+
+    pub fn jb_read_sheet(
+        file: *const u8,
+        file_count: usize,
+        codes: *mut u8,
+        codes_count: usize,
+        outlets: *mut u32,
+        outlets_count: usize,
+        shape: *mut [u32; 3],
+    ) -> u32;
+
+    pub fn jb_write_sheet(
+        rows: usize,
+        cols: usize,
+        codes: *const u8,
+        codes_count: usize,
+        outlets: *const u32,
+        outlets_count: usize,
+        file: *mut u8,
+        file_count: usize,
+        size: *mut [u32; 1],
+    ) -> u32;
+}

@@ -1,0 +1,67 @@
+//! Accumulation, its check, and subaccumulation.
+
+use crate::declared;
+
+/// Checks 10, 11, 12, 13. Leaves the accumulation in the first rows × cols places; 13 leaves zeros
+/// there.
+#[inline]
+#[must_use]
+pub fn accumulate(rows: usize, cols: usize, codes: &[u8], accumulation: &mut [u32]) -> u32 {
+    // SAFETY: as the root says of every call.
+    unsafe {
+        declared::jb_accumulate(
+            rows,
+            cols,
+            codes.as_ptr(),
+            codes.len(),
+            accumulation.as_mut_ptr(),
+            accumulation.len(),
+        )
+    }
+}
+
+/// Checks 10, 11, 12, 14. Writes nothing.
+#[inline]
+#[must_use]
+pub fn check_accumulation(rows: usize, cols: usize, codes: &[u8], accumulation: &[u32]) -> u32 {
+    // SAFETY: as the root says of every call.
+    unsafe {
+        declared::jb_check_accumulation(
+            rows,
+            cols,
+            codes.as_ptr(),
+            codes.len(),
+            accumulation.as_ptr(),
+            accumulation.len(),
+        )
+    }
+}
+
+/// Checks 10, 11, 12, 14 to 17. Leaves the subaccumulation under a list of outlets in the first
+/// rows × cols places. An outlet is its cell number.
+#[inline]
+#[must_use]
+pub fn subaccumulate(
+    rows: usize,
+    cols: usize,
+    codes: &[u8],
+    accumulation: &[u32],
+    outlets: &[u32],
+    subaccumulation: &mut [u32],
+) -> u32 {
+    // SAFETY: as the root says of every call.
+    unsafe {
+        declared::jb_subaccumulate(
+            rows,
+            cols,
+            codes.as_ptr(),
+            codes.len(),
+            accumulation.as_ptr(),
+            accumulation.len(),
+            outlets.as_ptr(),
+            outlets.len(),
+            subaccumulation.as_mut_ptr(),
+            subaccumulation.len(),
+        )
+    }
+}
