@@ -16,49 +16,63 @@ static int inside(size_t rows, size_t cols, long row, long col) {
 }
 
 static int codes_good(size_t cells, const uint8_t *codes) {
-    for (size_t i = 0; i < cells; i++)
-        if ((codes[i] & (codes[i] - 1)) != 0) return 0;
-    return 1;
+    uint8_t bad = 0;
+    for (size_t i = 0; i < cells; i++) bad |= codes[i] & (codes[i] - 1);
+    return bad == 0;
+}
+
+/* what a step to each neighbour adds to a cell's number */
+static void offsets(size_t cols, long to[8]) {
+    for (int k = 0; k < 8; k++) to[k] = DOWN[k] * (long)cols + RIGHT[k];
+}
+
+/* bit k: does neighbour k flow in? Of an inner cell by eight comparisons, of another neighbour by neighbour. */
+static inline unsigned inflow_mask(size_t rows, size_t cols, const uint8_t *codes, size_t row, size_t col) {
+    if (row > 0 && col > 0 && row + 1 < rows && col + 1 < cols) {
+        const uint8_t *here = codes + row * cols + col, *above = here - cols, *below = here + cols;
+        return (here[1] == 16) | (below[1] == 32) << 1 | (below[0] == 64) << 2 | (below[-1] == 128) << 3 |
+               (here[-1] == 1) << 4 | (above[-1] == 2) << 5 | (above[0] == 4) << 6 | (above[1] == 8) << 7;
+    }
+    unsigned mask = 0;
+    for (int k = 0; k < 8; k++) {
+        long r = (long)row + DOWN[k], c = (long)col + RIGHT[k];
+        if (inside(rows, cols, r, c) && codes[(size_t)r * cols + (size_t)c] == BACK[k]) mask |= 1u << k;
+    }
+    return mask;
 }
 
 /* 1 and the sum over inflows, or 0 if one of them is not known yet */
-static inline uint32_t known_sum(size_t rows, size_t cols, const uint8_t *codes, const uint8_t *marks,
-                                 const uint32_t *sums, long row, long col) {
+static inline uint32_t known_sum(unsigned mask, const long to[8], const uint32_t *here) {
     uint32_t sum = 1;
-    for (int k = 0; k < 8; k++) {
-        long r = row + DOWN[k], c = col + RIGHT[k];
-        if (!inside(rows, cols, r, c)) continue;
-        size_t at = (size_t)r * cols + (size_t)c;
-        if (codes[at] != BACK[k] || (marks && marks[at])) continue;
-        if (sums[at] == 0) return 0;
-        sum += sums[at];
+    for (; mask != 0; mask &= mask - 1) {
+        uint32_t inflow = here[to[__builtin_ctz(mask)]];
+        if (inflow == 0) return 0;
+        sum += inflow;
     }
     return sum;
 }
 
-/* From each cell downward, as long as all inflows are known. */
-static inline void fill(size_t rows, size_t cols, const uint8_t *codes, const uint8_t *marks, uint32_t *sums) {
-    memset(sums, 0, rows * cols * sizeof *sums);
+uint32_t plain_look_around(size_t rows, size_t cols, const uint8_t *codes, uint32_t *accumulation) {
+    size_t cells = rows * cols;
+    long to[8];
+    if (!codes_good(cells, codes)) return 12;
+    offsets(cols, to);
+    memset(accumulation, 0, cells * sizeof *accumulation);
     for (size_t row = 0; row < rows; row++)
         for (size_t col = 0; col < cols; col++) {
             long r = (long)row, c = (long)col;
-            while (inside(rows, cols, r, c)) {
-                size_t at = (size_t)r * cols + (size_t)c;
-                if (codes[at] == 0 || sums[at] != 0) break;
-                uint32_t sum = known_sum(rows, cols, codes, marks, sums, r, c);
+            size_t at = row * cols + col;
+            while (inside(rows, cols, r, c) && codes[at] != 0 && accumulation[at] == 0) {
+                unsigned mask = inflow_mask(rows, cols, codes, (size_t)r, (size_t)c);
+                uint32_t sum = known_sum(mask, to, accumulation + at);
                 if (sum == 0) break;
-                sums[at] = sum;
+                accumulation[at] = sum;
                 int k = way(codes[at]);
                 r += DOWN[k];
                 c += RIGHT[k];
+                at += (size_t)to[k];
             }
         }
-}
-
-uint32_t plain_look_around(size_t rows, size_t cols, const uint8_t *codes, uint32_t *accumulation) {
-    size_t cells = rows * cols;
-    if (!codes_good(cells, codes)) return 12;
-    fill(rows, cols, codes, NULL, accumulation);
     for (size_t i = 0; i < cells; i++)
         if (codes[i] != 0 && accumulation[i] == 0) {
             memset(accumulation, 0, cells * sizeof *accumulation);
@@ -67,60 +81,70 @@ uint32_t plain_look_around(size_t rows, size_t cols, const uint8_t *codes, uint3
     return 0;
 }
 
-/* the cell that a cell flows to, or -1 */
-static long below(size_t rows, size_t cols, const uint8_t *codes, size_t row, size_t col) {
-    int k = way(codes[row * cols + col]);
-    long r = (long)row + DOWN[k], c = (long)col + RIGHT[k];
-    if (!inside(rows, cols, r, c)) return -1;
-    long at = r * (long)cols + c;
-    return codes[at] == 0 ? -1 : at;
-}
+enum { INFLOW = 1 << 25 };
 
-uint32_t plain_inflow_count(size_t rows, size_t cols, const uint8_t *codes, uint32_t *accumulation, uint8_t *left,
-                            uint32_t *queue) {
-    size_t cells = rows * cols, ground = 0, head = 0, tail = 0;
-    if (!codes_good(cells, codes)) return 12;
-    memset(left, 0, cells);
+/* A word is 1 and what has arrived, and INFLOW for each inflow that has not. Marked cells flow nowhere. */
+static inline uint32_t count_and_pass(size_t rows, size_t cols, const uint8_t *codes, const uint8_t *marks,
+                                      uint32_t *words) {
+    size_t cells = rows * cols;
+    long to[8];
+    offsets(cols, to);
+    memset(words, 0, cells * sizeof *words);
     for (size_t row = 0; row < rows; row++)
         for (size_t col = 0; col < cols; col++) {
-            if (codes[row * cols + col] == 0) continue;
-            ground++;
-            long to = below(rows, cols, codes, row, col);
-            if (to >= 0) left[to]++;
+            size_t at = row * cols + col;
+            if (codes[at] == 0) continue;
+            words[at]++;
+            int k = way(codes[at]);
+            if (marks && marks[at]) continue;
+            if (!inside(rows, cols, (long)row + DOWN[k], (long)col + RIGHT[k])) continue;
+            size_t below = at + (size_t)to[k];
+            if (codes[below] != 0) words[below] += INFLOW;
         }
-    for (size_t i = 0; i < cells; i++) {
-        accumulation[i] = codes[i] != 0;
-        if (codes[i] != 0 && left[i] == 0) queue[tail++] = (uint32_t)i;
-    }
-    while (head < tail) {
-        uint32_t at = queue[head++];
-        long to = below(rows, cols, codes, at / (uint32_t)cols, at % (uint32_t)cols);
-        if (to < 0) continue;
-        accumulation[to] += accumulation[at];
-        if (--left[to] == 0) queue[tail++] = (uint32_t)to;
-    }
-    if (tail == ground) return 0;
-    memset(accumulation, 0, cells * sizeof *accumulation);
-    return 13;
+    for (size_t row = 0; row < rows; row++)
+        for (size_t col = 0; col < cols; col++) {
+            size_t at = row * cols + col;
+            if (words[at] != 1) continue;
+            long r = (long)row, c = (long)col;
+            uint32_t word = 1;
+            while (word < INFLOW && !(marks && marks[at])) {
+                int k = way(codes[at]);
+                r += DOWN[k];
+                c += RIGHT[k];
+                if (!inside(rows, cols, r, c)) break;
+                at += (size_t)to[k];
+                if (codes[at] == 0) break;
+                word = words[at] += word - INFLOW;
+            }
+        }
+    for (size_t i = 0; i < cells; i++)
+        if (words[i] >= INFLOW) {
+            memset(words, 0, cells * sizeof *words);
+            return 13;
+        }
+    return 0;
+}
+
+uint32_t plain_inflow_count(size_t rows, size_t cols, const uint8_t *codes, uint32_t *accumulation) {
+    if (!codes_good(rows * cols, codes)) return 12;
+    return count_and_pass(rows, cols, codes, NULL, accumulation);
 }
 
 uint32_t plain_equation(size_t rows, size_t cols, const uint8_t *codes, const uint32_t *accumulation) {
+    long to[8];
     if (!codes_good(rows * cols, codes)) return 12;
+    offsets(cols, to);
     for (size_t row = 0; row < rows; row++)
         for (size_t col = 0; col < cols; col++) {
-            size_t here = row * cols + col;
-            if (codes[here] == 0) {
-                if (accumulation[here] != 0) return 14;
+            const uint32_t *here = accumulation + row * cols + col;
+            if (codes[row * cols + col] == 0) {
+                if (*here != 0) return 14;
                 continue;
             }
             uint64_t sum = 1;
-            for (int k = 0; k < 8; k++) {
-                long r = (long)row + DOWN[k], c = (long)col + RIGHT[k];
-                if (!inside(rows, cols, r, c)) continue;
-                size_t at = (size_t)r * cols + (size_t)c;
-                if (codes[at] == BACK[k]) sum += accumulation[at];
-            }
-            if (accumulation[here] != sum) return 14;
+            for (unsigned mask = inflow_mask(rows, cols, codes, row, col); mask != 0; mask &= mask - 1)
+                sum += here[to[__builtin_ctz(mask)]];
+            if (*here != sum) return 14;
         }
     return 0;
 }
@@ -131,8 +155,7 @@ uint32_t plain_subaccumulate(size_t rows, size_t cols, const uint8_t *codes, con
     if (number != 0) return number;
     memset(marks, 0, rows * cols);
     for (size_t i = 0; i < count; i++) marks[outlets[i]] = 1;
-    fill(rows, cols, codes, marks, subaccumulation);
-    return 0;
+    return count_and_pass(rows, cols, codes, marks, subaccumulation);
 }
 
 struct plain_found plain_search(size_t rows, size_t cols, const uint8_t *codes, const uint32_t *subaccumulation,

@@ -9,17 +9,18 @@ struct plain_found {
     uint32_t straight, diagonal, paths, visited, dropped;
 };
 
-/* Each cell is summed up from its neighbours once they are known. 0, 12, or 13 with zeros left. */
+/* Each cell is summed up from its neighbours once they are known; a mask tells which flow in. 0, 12, or 13 with zeros
+   left. */
 uint32_t plain_look_around(size_t rows, size_t cols, const uint8_t *codes, uint32_t *accumulation);
 
-/* Inflows are counted first; cells with none left wait in a queue. left and queue have a place for each cell. */
-uint32_t plain_inflow_count(size_t rows, size_t cols, const uint8_t *codes, uint32_t *accumulation, uint8_t *left,
-                            uint32_t *queue);
+/* Inflows are counted in the upper bits of the same grid, and cells that wait for none are passed down. 0, 12, or 13
+   with zeros left. */
+uint32_t plain_inflow_count(size_t rows, size_t cols, const uint8_t *codes, uint32_t *accumulation);
 
-/* The equation at each cell. 0, 12 or 14. */
+/* The equation at each cell; a mask tells which neighbours flow in. 0, 12 or 14. */
 uint32_t plain_equation(size_t rows, size_t cols, const uint8_t *codes, const uint32_t *accumulation);
 
-/* The equation, then each cell from its neighbours without outlets. marks has a place for each cell. 0, 12 or 14. */
+/* The equation, then the inflow count, with outlets flowing nowhere. marks has a place for each cell. 0, 12 or 14. */
 uint32_t plain_subaccumulate(size_t rows, size_t cols, const uint8_t *codes, const uint32_t *accumulation,
                              const uint32_t *outlets, size_t count, uint32_t *subaccumulation, uint8_t *marks);
 

@@ -3,7 +3,7 @@
 //!
 //! * `bench` measures everything;
 //! * `bench quick` leaves the largest grids out;
-//! * `bench aims` measures only what is aimed at: large fractal ground, without Rust, more often.
+//! * `bench aims` measures only what is aimed at: large grounds, without Rust, more often.
 
 mod grounds;
 mod measure;
@@ -78,7 +78,7 @@ fn aims() {
     let size = (4096, Runs { quick: 15, rust: 0 });
     machine(&[size]);
     let mut clock = Clock::default();
-    tables::aims(&measure(size, &grounds::KINDS[..1], &mut clock));
+    tables::aims(&measure(size, &grounds::KINDS[..3], &mut clock));
     noise(&clock.bests);
 }
 

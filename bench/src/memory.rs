@@ -70,7 +70,7 @@ pub fn memory_of(who: &str, work: &str) {
             accepted(jinxbanyan::accumulate(SIDE, SIDE, codes, &mut accumulation));
         }
         ("plain C", "accumulate") => {
-            accepted(plain::look_around(SIDE, SIDE, codes, &mut accumulation));
+            accepted(plain::inflow_count(SIDE, SIDE, codes, &mut accumulation));
         }
         ("Rust", "accumulate") => {
             assert!(entries::accumulate(SIDE, SIDE, codes, &mut accumulation).is_ok());

@@ -23,8 +23,6 @@ mod c {
             cols: usize,
             codes: *const u8,
             accumulation: *mut u32,
-            left: *mut u8,
-            queue: *mut u32,
         ) -> u32;
 
         pub fn plain_equation(
@@ -79,20 +77,9 @@ pub fn look_around(rows: usize, cols: usize, codes: &[u8], accumulation: &mut [u
     unsafe { c::plain_look_around(rows, cols, codes.as_ptr(), accumulation.as_mut_ptr()) }
 }
 
-pub fn inflow_count(
-    rows: usize,
-    cols: usize,
-    codes: &[u8],
-    accumulation: &mut [u32],
-    left: &mut [u8],
-    queue: &mut [u32],
-) -> u32 {
-    let cells = rows * cols;
-    assert!(codes.len() >= cells && accumulation.len() >= cells);
-    assert!(left.len() >= cells && queue.len() >= cells);
-    let (accumulation, left, queue) =
-        (accumulation.as_mut_ptr(), left.as_mut_ptr(), queue.as_mut_ptr());
-    unsafe { c::plain_inflow_count(rows, cols, codes.as_ptr(), accumulation, left, queue) }
+pub fn inflow_count(rows: usize, cols: usize, codes: &[u8], accumulation: &mut [u32]) -> u32 {
+    assert!(codes.len() >= rows * cols && accumulation.len() >= rows * cols);
+    unsafe { c::plain_inflow_count(rows, cols, codes.as_ptr(), accumulation.as_mut_ptr()) }
 }
 
 pub fn equation(terrain: Terrain) -> u32 {

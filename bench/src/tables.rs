@@ -46,18 +46,21 @@ pub struct Size {
     pub grounds: Vec<Vec<Figure>>,
 }
 
-/// What was aimed at on fractal ground, and what came of it.
+/// What was aimed at on each ground, and what came of it.
 pub fn aims(size: &Size) {
-    println!("### {}, fractal: aims\n", size.name);
+    println!("### {}: aims\n", size.name);
     let mut rows = Vec::new();
-    for (row, figure) in ROWS.iter().zip(&size.grounds[0]) {
-        if let Some(aim) = row.aim {
-            let found = marked(figure, ratio(figure.library / figure.plain));
-            let words = [row.work, row.plain].map(str::to_string);
-            rows.push([&words[..], &[format!("≤ {aim}"), found]].concat());
+    for (at, row) in ROWS.iter().enumerate() {
+        for (((kind, _), aim), ground) in KINDS.iter().zip(row.aims).zip(&size.grounds) {
+            if let Some(aim) = aim {
+                let figure = &ground[at];
+                let found = marked(figure, ratio(figure.library / figure.plain));
+                let words = [row.work, row.plain, kind].map(str::to_string);
+                rows.push([&words[..], &[format!("≤ {aim}"), found]].concat());
+            }
         }
     }
-    table(2, &["work", "plain C does", "aim", "found"], &rows);
+    table(3, &["work", "plain C does", "ground", "aim", "found"], &rows);
 }
 
 /// The library's time divided by that of plain C and of the Rust implementation.

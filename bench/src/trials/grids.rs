@@ -18,11 +18,11 @@ pub fn accumulating(field: &Field, runs: Runs, sets: &Sets, clock: &mut Clock) -
         }),
         Contestant::new(runs.quick, || {
             let lent = &mut sets.plain.borrow_mut();
-            accepted(plain::look_around(rows, cols, codes, &mut lent.accumulation));
+            accepted(plain::inflow_count(rows, cols, codes, &mut lent.accumulation));
         }),
         Contestant::new(runs.quick, || {
-            let Lent { accumulation, bytes, places, .. } = &mut *sets.plain.borrow_mut();
-            accepted(plain::inflow_count(rows, cols, codes, accumulation, bytes, places));
+            let lent = &mut sets.plain.borrow_mut();
+            accepted(plain::look_around(rows, cols, codes, &mut lent.accumulation));
         }),
         Contestant::new(runs.rust, || {
             let lent = &mut sets.rust.borrow_mut();

@@ -12,7 +12,7 @@ use lib.Dec.{eqb}
 use borrow.Author.Tests.{eq-eqb, ne-eqb}
 use Rattle.lists.specs.Lists.{howMany}
 use Rattle.ground.specs.Compass.{Dir, E, SE, S, SW, W, NW, N, NE, dirs, codeOf, opposite}
-use Rattle.ground.specs.Grid.{Grid, Link, gridOf, cellCount, codeAt, ground, neighbour, flowsIn, inflow}
+use Rattle.ground.specs.Grid.{Grid, Link, gridOf, codeAt, ground, neighbour, flowsIn, inflow}
 use Rattle.ground.specs.Grid.{inflowsFrom, inflows}
 use Rattle.ground.proofs.Cells.{code-inside, ground-inflows}
 use Rattle.moves.specs.declared.Neighbour.{Neighbour}

@@ -68,7 +68,8 @@ fn inner_word_at(rows: usize, cols: usize, codes: &[u8], row: usize, col: usize)
             word += INFLOW;
         }
     }
-    if codes[row * cols + col] == 0 {
+    let here = row * cols + col;
+    if codes[here] == 0 {
         return 0;
     }
     word

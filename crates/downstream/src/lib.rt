@@ -4,7 +4,7 @@ use moves::Spot;
 use moves::lead_of;
 use moves::spot_at;
 ghost use mathlib.Core.Path.{_≡_};
-ghost use Prim.Native.Nat.{_*_, _+_, _≤_};
+ghost use Prim.Native.Nat.{_+_, _≤_};
 ghost use Rattle.ground.specs.Compass.{dirOf};
 ghost use Rattle.ground.specs.Grid.{gridOf};
 ghost use Rattle.downstream.specs.Offsets.{placeBy, offsetsOf};

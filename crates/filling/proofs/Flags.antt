@@ -4,19 +4,17 @@ use mathlib.Core.Path.{_≡_, refl, sym, ap, _∙_}
 use mathlib.Core.Bool.{Bool, true, false, not, true≢false}
 use mathlib.Core.List.{List}
 use mathlib.Core.Option.{Option, none, some}
-use Prim.Native.Nat.{ℕ, _+_, _-_, _*_, _%_, _≤_, _<_, _^_}
+use Prim.Native.Nat.{ℕ, _+_, _-_, _%_, _≤_, _<_, _^_}
 use native.Mathlib.Omega.{arith}
-use lib.ListN.{length, getD}
-use lib.Dec.{eqb}
-use borrow.Author.Tests.{eq-eqb, ne-eqb}
+use lib.ListN.{length}
 use Rattle.lists.specs.Lists.{member}
 use Rattle.ground.specs.Compass.{Dir, dirs}
-use Rattle.ground.specs.Grid.{Grid, Link, gridOf, cellCount, ground, next, inflowsFrom, inflows}
+use Rattle.ground.specs.Grid.{Grid, Link, cellCount, ground, next, inflowsFrom, inflows}
 use Rattle.ground.specs.Accumulation.{total}
 use Rattle.ground.specs.Subwatershed.{isOutlet}
 use Rattle.ground.proofs.Network.{Network}
 use Rattle.ground.proofs.Agreement.{noOutlet}
-use Rattle.ground.proofs.Cells.{code-inside, ground-inflows, null-inflows}
+use Rattle.ground.proofs.Cells.{ground-inflows, null-inflows}
 use Rattle.ground.proofs.GridNetwork.{network, inflows-induct}
 use Rattle.filling.specs.Packed.{oneEach, flagIf}
 use Rattle.filling.specs.Filling.{flagOf, nextCut, upsCut}

@@ -8,6 +8,7 @@ pub mod Descents
 pub mod Sweeps
 pub mod Flagging
 pub mod Outlets
+pub mod NextOutlet
 pub mod Scans
 pub mod Fronts
 pub mod Results

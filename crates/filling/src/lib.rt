@@ -32,11 +32,11 @@ fn flag_at(rows: usize, cols: usize, codes: &[u8], outlets: &[u32], words: &mut 
     ensures keeps { λ _. ⌜ Kept (rows * cols) (now (words .entry)) (now (words .exit)) ⌝ }
 {
     let at = index_of(outlets[place]);
-    let word = words[at];
-    if word >= FLAG {
+    let own = words[at];
+    if own >= FLAG {
         return;
     }
-    words[at] = word + FLAG;
+    words[at] = own + FLAG;
     let steps = offsets(cols);
     match downstream_of(rows, cols, codes, &steps, at / cols, at % cols, at) {
         Downstream::End => return,

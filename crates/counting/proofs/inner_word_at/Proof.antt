@@ -44,11 +44,11 @@ loop-again-2 c =
     no-more (c .before .before .before .loop .inv) (c .before .before .loop-test .taken) (c .before .inner-flows-in .ensures)
     (c .if1 .left)
 
-mul-if2 : tie.Need-mul-if2 Inv-loop μ-loop
-mul-if2 c = let s = c .before .before .before .pre .on in omega (arith, inside s, size (s .grid .sides))
+mul-here : tie.Need-mul-here Inv-loop μ-loop
+mul-here c = let s = c .before .before .before .pre .on in omega (arith, inside s, size (s .grid .sides))
 
-add-if2 : tie.Need-add-if2 Inv-loop μ-loop
-add-if2 c = let s = c .before .before .before .pre .on in omega (arith, inside s, size (s .grid .sides))
+add-here : tie.Need-add-here Inv-loop μ-loop
+add-here c = let s = c .before .before .before .pre .on in omega (arith, inside s, size (s .grid .sides))
 
 shared-slice-read-if2 : tie.Need-shared-slice-read-if2 Inv-loop μ-loop
 shared-slice-read-if2 c =
@@ -80,8 +80,8 @@ inner-word-at-spec =
     loop-again
     loop-less-2
     loop-again-2
-    mul-if2
-    add-if2
+    mul-here
+    add-here
     shared-slice-read-if2
     returns
     returns-2)

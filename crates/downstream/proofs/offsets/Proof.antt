@@ -1,8 +1,7 @@
 -- `downstream::offsets` meets its contract, place by place.
 -- Assumes nothing.
-use mathlib.Core.Path.{_≡_, ap₂}
-use mathlib.Core.List.{List, [], _∷_}
-use Prim.Native.Nat.{ℕ, _+_, _*_}
+use mathlib.Core.Path.{_≡_}
+use Prim.Native.Nat.{_+_, _*_}
 use native.Mathlib.Omega.{arith}
 use borrow.Author.Needs.{needs}
 use Rattle.downstream.proofs.offsets.Statement.{statement}

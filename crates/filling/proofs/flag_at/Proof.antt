@@ -1,16 +1,27 @@
 -- `filling::flag_at` meets its contract: the outlet is flagged already, or it flows nowhere, or a cell waited for it.
 -- Assumes nothing.
-use mathlib.Core.Path.{_≡_}
-use Prim.Native.Nat.{_*_, _<_}
 use native.Mathlib.Omega.{arith}
 use borrow.Author.Needs.{needs}
 use Rattle.lists.proofs.Kept.{kept-all, kept-then, kept-set}
-use Rattle.downstream.specs.Flowing.{FlowsOn}
-use Rattle.moves.specs.Walks.{Flows}
 use Rattle.ground.specs.Grid.{gridOf}
-use Rattle.filling.proofs.Outlets.{split, o-inside, o-room, again, at-end, z-inside, z-room, z-waits, waits-less}
+use Rattle.moves.specs.Walks.{Flows}
+use Rattle.filling.proofs.Outlets.{split}
+use Rattle.filling.proofs.NextOutlet.{Next, o-inside, o-room, again, at-end}
+use Rattle.filling.proofs.NextOutlet.{z-inside, z-room, z-waits, waits-less}
 use Rattle.filling.proofs.flag_at.Statement.{statement}
 use Rattle.filling.proofs.flag_at.Tie as tie
+
+-- the outlet, seen from where its number is known
+outlet : (c : tie.After-index-of) → let a = c .before .before .before .before .before .args in
+    Next (a .rows) (a .cols) (a .codes .now) (a .outlets .now) (a .words .now) (a .place) (c .index-of .result)
+outlet c =
+    let s = c .before .before .before .before .before in
+    record {
+      fillable = s .pre .0 .0;
+      is-outlet = c .index-of .ensures .0;
+      in-list = s .pre .0 .1;
+      flagged = s .pre .1;
+    }
 
 mul-index-of : tie.Need-mul-index-of
 mul-index-of c = search needs
@@ -21,14 +32,14 @@ shared-slice-read-index-of c = search needs
 index-of-requires : tie.Need-index-of-requires
 index-of-requires c κs = search needs
 
-mul-word : tie.Need-mul-word
-mul-word c = search needs
+mul-own : tie.Need-mul-own
+mul-own c = search needs
 
-slice-read-word : tie.Need-slice-read-word
-slice-read-word c = o-room (c .before .before .before .before .before .before .pre .0 .0) (c .before .index-of .ensures .0) (c .before .before .before .before .before .before .pre .0 .1) (c .before .before .before .before .before .before .pre .1)
+slice-read-own : tie.Need-slice-read-own
+slice-read-own c = o-room (outlet (c .before))
 
 returns : tie.Need-returns
-returns c = (again (c .before .before .before .before .before .before .before .pre .0 .0) (c .before .before .index-of .ensures .0) (c .before .before .before .before .before .before .before .pre .0 .1) (c .before .before .before .before .before .before .before .pre .1) (c .if1 .taken), kept-all)
+returns c = (again (outlet (c .before .before)) (c .if1 .taken), kept-all)
 
 add-words : tie.Need-add-words
 add-words c = search needs
@@ -37,7 +48,7 @@ mul-words : tie.Need-mul-words
 mul-words c = search needs
 
 slice-write-words : tie.Need-slice-write-words
-slice-write-words c = o-room (c .before .before .before .before .before .before .before .pre .0 .0) (c .before .before .index-of .ensures .0) (c .before .before .before .before .before .before .before .pre .0 .1) (c .before .before .before .before .before .before .before .pre .1)
+slice-write-words c = o-room (outlet (c .before .before))
 
 offsets-requires : tie.Need-offsets-requires
 offsets-requires c κs = search needs
@@ -50,8 +61,8 @@ rem-downstream-of c = search needs
 
 downstream-of-requires : tie.Need-downstream-of-requires
 downstream-of-requires c κs =
-    split (c .before .before .before .before .before .before .before .before .before .pre .0 .0) (o-inside (c .before .before .before .before .before .before .before .before .before .pre .0 .0) (c .before .before .before .before .index-of .ensures .0) (c .before .before .before .before .before .before .before .before .before .pre .0 .1) (c .before .before .before .before .before .before .before .before .before .pre .1))
-    (c .before .offsets .ensures)
+    let o = outlet (c .before .before .before .before) in
+    split (o .fillable) (o-inside o) (c .before .offsets .ensures)
 
 enum-told : tie.Need-enum-told
 enum-told c = search needs
@@ -60,11 +71,11 @@ same-length : tie.Need-same-length
 same-length c = search needs
 
 returns-2 : tie.Need-returns-2
-returns-2 c = (
-  at-end (c .before .before .before .before .before .before .before .before .before .before .before .before .pre .0 .0) (c .before .before .before .before .before .before .before .index-of .ensures .0) (c .before .before .before .before .before .before .before .before .before .before .before .before .pre .0 .1) (c .before .before .before .before .before .before .before .before .before .before .before .before .pre .1) (c .before .before .before .before .before .if1 .left)
-      (c .before .before .downstream-of .ensures .ends-here (c .enum-told .given .1)),
-  kept-set _ _ (o-inside (c .before .before .before .before .before .before .before .before .before .before .before .before .pre .0 .0) (c .before .before .before .before .before .before .before .index-of .ensures .0) (c .before .before .before .before .before .before .before .before .before .before .before .before .pre .0 .1) (c .before .before .before .before .before .before .before .before .before .before .before .before .pre .1)),
-)
+returns-2 c =
+    let o = outlet (c .before .before .before .before .before .before .before) in (
+      at-end o (c .before .before .before .before .before .if1 .left) (c .before .before .downstream-of .ensures .ends-here (c .enum-told .given .1)),
+      kept-set _ _ (o-inside o),
+    )
 
 enum-known-to : tie.Need-enum-known-to
 enum-known-to c = search needs
@@ -75,31 +86,31 @@ to : (c : tie.After-known-told) → let a = c .before .before .before .before .b
 to c = c .before .before .before .downstream-of .ensures .goes-on _ _ _ (c .before .to .given .1)
 
 mul-below : tie.Need-mul-below
-mul-below c =
-    let s = c .before .before .before .before .before .before .before .before .before .before .before .before .before in
-    omega (arith, z-inside (c .before .before .before .before .before .before .before .before .before .before .before .before .before .pre .0 .0) (c .before .before .before .before .before .before .before .before .index-of .ensures .0) (c .before .before .before .before .before .before .before .before .before .before .before .before .before .pre .0 .1) (c .before .before .before .before .before .before .before .before .before .before .before .before .before .pre .1) (c .before .before .before .before .before .before .if1 .left) (to c))
+mul-below c = omega (arith, z-inside (outlet (c .before .before .before .before .before .before .before .before)) (c .before .before .before .before .before .before .if1 .left) (to c))
 
 slice-read-below : tie.Need-slice-read-below
-slice-read-below c = z-room (c .before .before .before .before .before .before .before .before .before .before .before .before .before .before .pre .0 .0) (c .before .before .before .before .before .before .before .before .before .index-of .ensures .0) (c .before .before .before .before .before .before .before .before .before .before .before .before .before .before .pre .0 .1) (c .before .before .before .before .before .before .before .before .before .before .before .before .before .before .pre .1) (c .before .before .before .before .before .before .before .if1 .left) (to (c .before))
+slice-read-below c = z-room (outlet (c .before .before .before .before .before .before .before .before .before)) (c .before .before .before .before .before .before .before .if1 .left) (to (c .before))
 
 sub-words : tie.Need-sub-words
-sub-words c = z-waits (c .before .before .before .before .before .before .before .before .before .before .before .before .before .before .pre .0 .0) (c .before .before .before .before .before .before .before .before .before .index-of .ensures .0) (c .before .before .before .before .before .before .before .before .before .before .before .before .before .before .pre .0 .1) (c .before .before .before .before .before .before .before .before .before .before .before .before .before .before .pre .1) (c .before .before .before .before .before .before .before .if1 .left) (to (c .before))
+sub-words c = z-waits (outlet (c .before .before .before .before .before .before .before .before .before)) (c .before .before .before .before .before .before .before .if1 .left) (to (c .before))
 
 mul-words-2 : tie.Need-mul-words-2
-mul-words-2 c = omega (arith, z-inside (c .before .before .before .before .before .before .before .before .before .before .before .before .before .before .pre .0 .0) (c .before .before .before .before .before .before .before .before .before .index-of .ensures .0) (c .before .before .before .before .before .before .before .before .before .before .before .before .before .before .pre .0 .1) (c .before .before .before .before .before .before .before .before .before .before .before .before .before .before .pre .1) (c .before .before .before .before .before .before .before .if1 .left) (to (c .before)))
+mul-words-2 c = omega (arith, z-inside (outlet (c .before .before .before .before .before .before .before .before .before)) (c .before .before .before .before .before .before .before .if1 .left) (to (c .before)))
 
 slice-write-words-2 : tie.Need-slice-write-words-2
-slice-write-words-2 c = z-room (c .before .before .before .before .before .before .before .before .before .before .before .before .before .before .pre .0 .0) (c .before .before .before .before .before .before .before .before .before .index-of .ensures .0) (c .before .before .before .before .before .before .before .before .before .before .before .before .before .before .pre .0 .1) (c .before .before .before .before .before .before .before .before .before .before .before .before .before .before .pre .1) (c .before .before .before .before .before .before .before .if1 .left) (to (c .before))
+slice-write-words-2 c = z-room (outlet (c .before .before .before .before .before .before .before .before .before)) (c .before .before .before .before .before .before .before .if1 .left) (to (c .before))
 
 same-length-2 : tie.Need-same-length-2
 same-length-2 c = search needs
 
 returns-3 : tie.Need-returns-3
-returns-3 c = (
-  waits-less (c .before .before .before .before .before .before .before .before .before .before .before .before .before .before .pre .0 .0) (c .before .before .before .before .before .before .before .before .before .index-of .ensures .0) (c .before .before .before .before .before .before .before .before .before .before .before .before .before .before .pre .0 .1) (c .before .before .before .before .before .before .before .before .before .before .before .before .before .before .pre .1) (c .before .before .before .before .before .before .before .if1 .left) (to (c .before)),
-  kept-then (kept-set _ _ (o-inside (c .before .before .before .before .before .before .before .before .before .before .before .before .before .before .pre .0 .0) (c .before .before .before .before .before .before .before .before .before .index-of .ensures .0) (c .before .before .before .before .before .before .before .before .before .before .before .before .before .before .pre .0 .1) (c .before .before .before .before .before .before .before .before .before .before .before .before .before .before .pre .1)))
-      (kept-set _ _ (z-inside (c .before .before .before .before .before .before .before .before .before .before .before .before .before .before .pre .0 .0) (c .before .before .before .before .before .before .before .before .before .index-of .ensures .0) (c .before .before .before .before .before .before .before .before .before .before .before .before .before .before .pre .0 .1) (c .before .before .before .before .before .before .before .before .before .before .before .before .before .before .pre .1) (c .before .before .before .before .before .before .before .if1 .left) (to (c .before)) .0)),
-)
+returns-3 c =
+    let o = outlet (c .before .before .before .before .before .before .before .before .before) in
+    let low = c .before .before .before .before .before .before .before .if1 .left in
+    let there = to (c .before) in (
+      waits-less o low there,
+      kept-then (kept-set _ _ (o-inside o)) (kept-set _ _ (z-inside o low there .0)),
+    )
 
 pub flag-at-spec : {M : Type 1} → statement M
 flag-at-spec =
@@ -108,8 +119,8 @@ flag-at-spec =
     mul-index-of
     shared-slice-read-index-of
     index-of-requires
-    mul-word
-    slice-read-word
+    mul-own
+    slice-read-own
     returns
     add-words
     mul-words
