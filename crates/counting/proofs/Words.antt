@@ -11,18 +11,16 @@ use lib.ListN.{length, getD}
 use lib.Dec.{eqb}
 use borrow.Author.Tests.{eq-eqb, ne-eqb}
 use Rattle.lists.specs.Lists.{howMany}
-use Rattle.ground.specs.Compass.{Dir, E, SE, S, SW, W, NW, N, NE, dirs, codeOf, opposite}
-use Rattle.ground.specs.Grid.{Grid, Link, gridOf, codeAt, ground, neighbour, flowsIn, inflow}
+use Rattle.ground.specs.Compass.{Dir, E, SE, S, SW, W, NW, N, NE, dirs}
+use Rattle.ground.specs.Grid.{Grid, Link, gridOf, ground, neighbour, flowsIn, inflow}
 use Rattle.ground.specs.Grid.{inflowsFrom, inflows}
 use Rattle.ground.proofs.Cells.{code-inside, ground-inflows}
-use Rattle.moves.specs.declared.Neighbour.{Neighbour}
 use Rattle.moves.specs.declared.Spot.{Spot}
 use Rattle.moves.specs.declared.Spot.the-variants.{Off, On}
-use Rattle.moves.specs.Moves.{spotCell, dirAt, neighbourOf}
+use Rattle.moves.specs.Moves.{spotCell, dirAt}
 use Rattle.moves.specs.Walks.{ifFlowsIn, inflowFrom, FlowsFrom}
-use Rattle.moves.proofs.Spots.{lies, row-is, col-is}
-use Rattle.inflows.proofs.InflowRecord.{inner-spot, inner-inside}
-use Rattle.counting.specs.Counting.{InnerOn, flowsAt, countedWord}
+use Rattle.inflows.specs.Values.{flowsAt}
+use Rattle.counting.specs.Counting.{countedWord}
 
 -- ---- ground by the code that is read
 
@@ -68,23 +66,6 @@ module _ {rows cols row col k : ℕ} {codes : List ℕ} {s : Spot} (p : FlowsFro
       let there : spotCell cols s ≡ some (x * cols + y) = rw e in
       some-flows (gridOf rows cols codes) (dirAt k)
       (neighbour (gridOf rows cols codes) (row * cols + col) (dirAt k)) (sym there ∙ p .is-cell)
-
--- a neighbour of an inner cell flows in if its code points back
-pub inner-flows : {rows cols row col : ℕ} {codes : List ℕ} (i : InnerOn rows cols codes row col) (k : ℕ)
-    {n : Neighbour} → n ≡ neighbourOf (dirAt k)
-    → eqb (getD codes ((row + n .row - 1) * cols + (col + n .col - 1)) 0) (n .back)
-    ≡ flowsAt (gridOf rows cols codes) (row * cols + col) k
-inner-flows {rows} {cols} {row} {col} {codes} i k {n} is-n =
-    let there = (row + n .row - 1) * cols + (col + n .col - 1) in
-    let at : neighbour (gridOf rows cols codes) (row * cols + col) (dirAt k) ≡ some there =
-    lies (inner-spot (i .on) (i .inner) k is-n) codes (i .on .col-in) (dirAt k) (row-is (i .on) k is-n)
-    (col-is (i .on) k is-n) in
-    let code : codeAt (gridOf rows cols codes) there ≡ getD codes there 0 =
-    code-inside (gridOf rows cols codes) there (inner-inside (i .on) (i .inner) k is-n) in
-    let back : n .back ≡ codeOf (opposite (dirAt k)) = ap (λ (m : Neighbour). m .back) is-n in
-    sym (ap (flowsIn (gridOf rows cols codes) (dirAt k)) at
-    ∙ ap (λ (x : ℕ). eqb x (codeOf (opposite (dirAt k)))) code
-    ∙ ap (λ (x : ℕ). eqb (getD codes there 0) x) (sym back))
 
 -- ---- how many do
 

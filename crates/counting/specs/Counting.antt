@@ -1,20 +1,13 @@
 -- The first word of a cell: itself, and how many neighbours flow in.
 -- Assumes nothing.
 use mathlib.Core.Path.{_≡_}
-use mathlib.Core.Bool.{Bool, cond}
+use mathlib.Core.Bool.{cond}
 use mathlib.Core.Logic.{_⊎_}
 use mathlib.Core.List.{List}
 use Prim.Native.Nat.{ℕ, suc, _+_, _*_, _≤_, _<_, _^_}
 use lib.ListN.{length, getD}
-use Rattle.ground.specs.Grid.{Grid, cellCount, ground, neighbour, flowsIn, inflows}
-use Rattle.moves.specs.Lent.{LentGrid, OnCell}
-use Rattle.moves.specs.Moves.{dirAt}
-use Rattle.inflows.specs.Values.{Inner}
-
--- a cell of a lent grid of which all eight neighbours are on the grid
-pub record InnerOn (rows cols : ℕ) (codes : List ℕ) (row col : ℕ) : Type 0 where
-  pub on : OnCell rows cols codes row col
-  pub inner : Inner rows cols row col
+use Rattle.ground.specs.Grid.{Grid, cellCount, ground, inflows}
+use Rattle.moves.specs.Lent.{LentGrid}
 
 -- a grid with a column, and a lent grid of words that is large enough
 pub record Countable (rows cols : ℕ) (codes words : List ℕ) : Type 0 where
@@ -23,10 +16,6 @@ pub record Countable (rows cols : ℕ) (codes words : List ℕ) : Type 0 where
   pub has-words : rows * cols ≤ length words
 
 module _ (g : Grid) where
-  -- does neighbour k flow in?
-  abbrev pub flowsAt : ℕ → ℕ → Bool
-  flowsAt x k = flowsIn g (dirAt k) (neighbour g x (dirAt k))
-
   -- 0 at a null cell, else 1 and 2 ^ 25 for each inflow
   unfoldable pub countedWord : ℕ → ℕ
   countedWord x = cond (ground g x) (suc (2 ^ 25 * length (inflows g x))) 0

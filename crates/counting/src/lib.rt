@@ -1,13 +1,14 @@
 // The first word of every cell of a lent grid: how many neighbours flow in, and the cell itself. Each word is written
 // once, by looking at the neighbours, and no word is read; so the inner cells of a row are counted several at once.
+use inflows::inner_neighbour;
 use moves::Spot;
 use moves::inflow_from;
-use moves::neighbour_at;
 ghost use mathlib.Core.Path.{_≡_};
 ghost use Prim.Native.Nat.{_*_, _+_, _-_, _≤_, _<_};
 ghost use Rattle.ground.specs.Grid.{gridOf};
 ghost use Rattle.moves.specs.Lent.{OnCell};
-ghost use Rattle.counting.specs.Counting.{flowsAt, countedWord, InnerOn, Countable, Counts, CountsRow};
+ghost use Rattle.inflows.specs.Values.{InnerOn, flowsAt};
+ghost use Rattle.counting.specs.Counting.{countedWord, Countable, Counts, CountsRow};
 
 // One inflow, in a cell's word.
 pub const INFLOW: u32 = 33554432;
@@ -21,17 +22,6 @@ fn flows_in(rows: usize, cols: usize, codes: &[u8], row: usize, col: usize, k: u
         Spot::Off => false,
         Spot::On { row: _, col: _ } => true,
     }
-}
-
-// Does neighbour k of an inner cell? No border is tested.
-fn inner_flows_in(rows: usize, cols: usize, codes: &[u8], row: usize, col: usize, k: usize) -> bool
-    requires { ⌜ InnerOn rows cols (now codes) row col ⌝ }
-    ensures { λ r. ⌜ r ≡ flowsAt (gridOf rows cols (now (codes .entry))) (row * cols + col) k ⌝ }
-{
-    let n = neighbour_at(k);
-    let at = (row + n.row - 1) * cols + (col + n.col - 1);
-    let back = n.back;
-    codes[at] == back
 }
 
 // The word of a cell: 0 at a null cell, else 1 and what flows in.
@@ -62,9 +52,9 @@ fn inner_word_at(rows: usize, cols: usize, codes: &[u8], row: usize, col: usize)
     let mut word: u32 = 1;
     let mut k: usize = 0;
     while k < 8 {
-        let flows = inner_flows_in(rows, cols, codes, row, col, k);
+        let n = inner_neighbour(rows, cols, codes, row, col, k);
         k += 1;
-        if flows {
+        if n.flows {
             word += INFLOW;
         }
     }

@@ -1,7 +1,7 @@
 -- The inflow record by the numbers of the source: its values, and their sum.
 -- Assumes nothing.
 use mathlib.Core.Path.{_≡_, refl, sym, ap, _∙_}
-use mathlib.Core.Bool.{Bool, true, false}
+use mathlib.Core.Bool.{Bool, true, false, cond}
 use mathlib.Core.List.{List, [], _∷_, _++_, map}
 use mathlib.Core.Option.{Option, none, some}
 use Prim.Native.Nat.{ℕ, zero, suc, _+_, _-_, _*_, _<_}
@@ -9,18 +9,21 @@ use native.Mathlib.Omega.{arith}
 use native.Mathlib.Numerals.{add-one}
 use lib.ListN.{length, getD, take, set}
 use lib.Seq.{take-suc, getD-set-same, getD-set-other, ext-getD}
+use lib.Dec.{eqb}
 use borrow.Author.Count.{below-more}
 use Rattle.lists.specs.Lists.{sumOf}
-use Rattle.ground.specs.Compass.{Dir, NE, dirs}
+use Rattle.ground.specs.Compass.{Dir, NE, dirs, codeOf, opposite}
 use Rattle.ground.specs.Grid.{Grid, gridOf, neighbour, flowsIn, inflowValue, inflowRecord}
+use Rattle.ground.proofs.Cells.{code-inside}
 use Rattle.moves.specs.declared.Neighbour.{Neighbour}
 use Rattle.moves.specs.declared.Spot.{Spot}
 use Rattle.moves.specs.declared.Spot.the-variants.{Off, On}
 use Rattle.moves.specs.Lent.{OnCell}
 use Rattle.moves.specs.Moves.{Spotted, spotCell, dirAt, neighbourOf}
 use Rattle.moves.specs.Walks.{ifFlowsIn, inflowFrom, FlowsFrom}
-use Rattle.moves.proofs.Spots.{on-grid, spot-inside, neighbour-in-reach}
-use Rattle.inflows.specs.Values.{HasCell, Inner, valueAt}
+use Rattle.moves.proofs.Spots.{on-grid, spot-inside, neighbour-in-reach, lies, row-is, col-is}
+use Rattle.inflows.specs.declared.Beside.{Beside}
+use Rattle.inflows.specs.Values.{HasCell, Inner, InnerOn, LiesBeside, valueAt}
 
 -- one value, by the neighbour that is found
 module _ {rows cols : ℕ} {codes accumulation : List ℕ} {row col : ℕ}
@@ -64,6 +67,47 @@ module _ {rows cols : ℕ} {codes : List ℕ} {row col : ℕ} (on : OnCell rows 
 
   pub inner-inside : (row + n .row - 1) * cols + (col + n .col - 1) < rows * cols
   inner-inside = spot-inside inner-spot refl
+
+-- NEIGHBOUR k OF AN INNER CELL, and what it has
+module _ {rows cols : ℕ} {codes : List ℕ} {row col : ℕ} (i : InnerOn rows cols codes row col) (k : ℕ)
+    {n : Neighbour} (is-n : n ≡ neighbourOf (dirAt k)) where
+  abbrev there : ℕ
+  there = (row + n .row - 1) * cols + (col + n .col - 1)
+
+  there-is : neighbour (gridOf rows cols codes) (row * cols + col) (dirAt k) ≡ some there
+  there-is = lies (inner-spot (i .on) (i .inner) k is-n) codes (i .on .col-in) (dirAt k) (row-is (i .on) k is-n)
+      (col-is (i .on) k is-n)
+
+  pub beside : LiesBeside rows cols codes row col k (record {
+    at = (row + n .row - 1) * cols + (col + n .col - 1);
+    flows = eqb (getD codes ((row + n .row - 1) * cols + (col + n .col - 1)) 0) (n .back);
+  })
+  beside =
+      let within = inner-inside (i .on) (i .inner) k is-n in
+      record {
+        inside = within;
+        is-there = there-is;
+        is-inflow = sym (ap (flowsIn (gridOf rows cols codes) (dirAt k)) there-is
+            ∙ ap (λ (x : ℕ). eqb x (codeOf (opposite (dirAt k)))) (code-inside (gridOf rows cols codes) there within)
+            ∙ ap (eqb (getD codes there 0)) (sym (ap (λ (m : Neighbour). m .back) is-n)));
+      }
+
+module _ {rows cols row col k : ℕ} {codes : List ℕ} {r : Beside} (p : LiesBeside rows cols codes row col k r)
+    (accumulation : List ℕ) where
+  -- by the number that is loaded
+  value-beside : (b : Bool) → r .flows ≡ b
+      → valueAt (gridOf rows cols codes) accumulation (row * cols + col) k ≡ cond b (getD accumulation (r .at) 0) 0
+  value-beside b e =
+      ap (inflowValue (gridOf rows cols codes) accumulation (dirAt k)) (p .is-there)
+      ∙ ap (λ (t : Bool). cond t (getD accumulation (r .at) 0) 0)
+      (sym (ap (flowsIn (gridOf rows cols codes) (dirAt k)) (p .is-there)) ∙ sym (p .is-inflow) ∙ e)
+
+  pub beside-away : r .flows ≡ false → 0 ≡ valueAt (gridOf rows cols codes) accumulation (row * cols + col) k
+  beside-away e = sym (value-beside false e)
+
+  pub beside-in : r .flows ≡ true
+      → getD accumulation (r .at) 0 ≡ valueAt (gridOf rows cols codes) accumulation (row * cols + col) k
+  beside-in e = sym (value-beside true e)
 
 -- the record from its values
 getD-map : {A : Type 0} (f : A → ℕ) (l : List A) (i : ℕ) (a : A) → i < length l → getD (map f l) i 0 ≡ f (getD l i a)

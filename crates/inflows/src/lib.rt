@@ -7,7 +7,7 @@ ghost use mathlib.Core.Path.{_≡_};
 ghost use Prim.Native.Nat.{_*_, _+_};
 ghost use Rattle.lists.specs.Lists.{sumOf};
 ghost use Rattle.ground.specs.Grid.{gridOf, inflowRecord};
-ghost use Rattle.inflows.specs.Values.{HasCell, InnerCell, valueAt};
+ghost use Rattle.inflows.specs.Values.{HasCell, InnerOn, InnerCell, LiesBeside, valueAt};
 
 // The accumulations of the neighbours that flow in, in neighbour order; 0 where one does not.
 pub struct Inflows {
@@ -37,8 +37,33 @@ fn inflow_at(
     }
 }
 
-// What flows in from neighbour k of an inner cell. No border is tested, and the number is loaded before the code is
-// looked at, so that no branch is left.
+// A neighbour of an inner cell: its number, and whether it flows in.
+pub struct Beside {
+    pub at: usize,
+    pub flows: bool,
+}
+
+// Neighbour k of an inner cell. No border is tested.
+pub fn inner_neighbour(
+    rows: usize,
+    cols: usize,
+    codes: &[u8],
+    row: usize,
+    col: usize,
+    k: usize,
+) -> Beside
+    requires { ⌜ InnerOn rows cols (now codes) row col ⌝ }
+    ensures { λ r. ⌜ LiesBeside rows cols (now (codes .entry)) row col k r ⌝ }
+{
+    let n = neighbour_at(k);
+    let at = (row + n.row - 1) * cols + (col + n.col - 1);
+    let back = n.back;
+    let flows = codes[at] == back;
+    Beside { at, flows }
+}
+
+// What flows in from neighbour k of an inner cell. The number is loaded before it is asked whether the neighbour flows
+// in, so that no branch is left.
 fn inner_inflow_at(
     rows: usize,
     cols: usize,
@@ -52,11 +77,10 @@ fn inner_inflow_at(
     ensures { λ r. ⌜ r
         ≡ valueAt (gridOf rows cols (now (codes .entry))) (now (accumulation .entry)) (row * cols + col) k ⌝ }
 {
-    let n = neighbour_at(k);
-    let at = (row + n.row - 1) * cols + (col + n.col - 1);
-    let back = n.back;
+    let n = inner_neighbour(rows, cols, codes, row, col, k);
+    let at = n.at;
     let mut value = accumulation[at];
-    if codes[at] != back {
+    if !n.flows {
         value = 0;
     }
     value

@@ -19,8 +19,8 @@ abbrev μ-loop : tie.MeasureT-loop
 loop-holds : tie.Need-loop-holds Inv-loop μ-loop
 loop-holds c = begin _ _
 
-inner-flows-in-requires : tie.Need-inner-flows-in-requires Inv-loop μ-loop
-inner-flows-in-requires c κs = search needs
+inner-neighbour-requires : tie.Need-inner-neighbour-requires Inv-loop μ-loop
+inner-neighbour-requires c κs = search needs
 
 add-k : tie.Need-add-k Inv-loop μ-loop
 add-k c = search needs
@@ -33,7 +33,7 @@ loop-less c = search needs
 
 loop-again : tie.Need-loop-again Inv-loop μ-loop
 loop-again c =
-    more (c .before .before .before .loop .inv) (c .before .before .loop-test .taken) (c .before .inner-flows-in .ensures)
+    more (c .before .before .before .loop .inv) (c .before .before .loop-test .taken) (c .before .inner-neighbour .ensures .is-inflow)
     (c .if1 .taken)
 
 loop-less-2 : tie.Need-loop-less-2 Inv-loop μ-loop
@@ -41,7 +41,7 @@ loop-less-2 c = search needs
 
 loop-again-2 : tie.Need-loop-again-2 Inv-loop μ-loop
 loop-again-2 c =
-    no-more (c .before .before .before .loop .inv) (c .before .before .loop-test .taken) (c .before .inner-flows-in .ensures)
+    no-more (c .before .before .before .loop .inv) (c .before .before .loop-test .taken) (c .before .inner-neighbour .ensures .is-inflow)
     (c .if1 .left)
 
 mul-here : tie.Need-mul-here Inv-loop μ-loop
@@ -73,7 +73,7 @@ inner-word-at-spec =
     Inv-loop
     μ-loop
     loop-holds
-    inner-flows-in-requires
+    inner-neighbour-requires
     add-k
     add-word
     loop-less

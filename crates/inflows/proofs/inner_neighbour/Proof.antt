@@ -1,14 +1,13 @@
--- `counting::inner_flows_in` meets its contract: the neighbour is on the grid, and its code tells.
+-- `inflows::inner_neighbour` meets its contract: the neighbour is on the grid, and its code tells.
 -- Assumes nothing.
 use Prim.Native.Nat.{_+_, _-_, _*_, _<_}
 use native.Mathlib.Omega.{arith}
 use borrow.Author.Needs.{needs}
 use Rattle.moves.specs.Moves.{InReach}
 use Rattle.moves.proofs.Spots.{size, neighbour-in-reach}
-use Rattle.inflows.proofs.InflowRecord.{inner-inside}
-use Rattle.counting.proofs.Words.{inner-flows}
-use Rattle.counting.proofs.inner_flows_in.Statement.{statement}
-use Rattle.counting.proofs.inner_flows_in.Tie as tie
+use Rattle.inflows.proofs.InflowRecord.{inner-inside, beside}
+use Rattle.inflows.proofs.inner_neighbour.Statement.{statement}
+use Rattle.inflows.proofs.inner_neighbour.Tie as tie
 
 neighbour-at-requires : tie.Need-neighbour-at-requires
 neighbour-at-requires c κs = search needs
@@ -52,18 +51,18 @@ sub-at-2 c = search needs
 add-at-3 : tie.Need-add-at-3
 add-at-3 c = omega (arith, reached (c .before), size (start (c .before) .pre .on .grid .sides))
 
-shared-slice-read-result : tie.Need-shared-slice-read-result
-shared-slice-read-result c =
+shared-slice-read-flows : tie.Need-shared-slice-read-flows
+shared-slice-read-flows c =
     let p = c .before .before in
     omega (arith, reached p, start p .pre .on .grid .has-codes)
 
 returns : tie.Need-returns
 returns c =
     let p = c .before .before in
-    inner-flows (start p .pre) (start p .args .k) (p .before .neighbour-at .ensures)
+    beside (start p .pre) (start p .args .k) (p .before .neighbour-at .ensures)
 
-pub inner-flows-in-spec : {M : Type 1} → statement M
-inner-flows-in-spec =
+pub inner-neighbour-spec : {M : Type 1} → statement M
+inner-neighbour-spec =
     tie.close
     (tie.spec
     neighbour-at-requires
@@ -73,5 +72,5 @@ inner-flows-in-spec =
     add-at-2
     sub-at-2
     add-at-3
-    shared-slice-read-result
+    shared-slice-read-flows
     returns)
