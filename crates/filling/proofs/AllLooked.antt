@@ -19,10 +19,10 @@ use Rattle.filling.specs.Packed.{waiting, Packed}
 use Rattle.filling.proofs.Totals.{ones-none}
 
 module _ {S : Type 0} {next : ℕ → Option (Link S)} {ups : ℕ → List (Link S)} {ground : ℕ → Bool} {cellCount : ℕ}
-    (𝓝 : Network next ups ground cellCount) {flag word : ℕ → ℕ}
-    (p : Packed ups ground cellCount flag word cellCount noOutlet) where
+    (𝓝 : Network next ups ground cellCount) {flag word : ℕ → ℕ} {done : ℕ}
+    (p : Packed ups ground cellCount flag word cellCount noOutlet done) where
   -- all headwaters were looked at, so what waits for nothing is passed down
-  settled : (x : ℕ) → ground x ≡ true → waiting ups (p .passed) x ≡ 0 → p .passed x ≡ true
+  pub settled : (x : ℕ) → ground x ≡ true → waiting ups (p .passed) x ≡ 0 → p .passed x ≡ true
   settled x v l = p .is-passed x v l refl (λ h q. omega (arith, 𝓝 .bounded x v))
 
   -- what holds of ground holds of the inflows

@@ -21,7 +21,8 @@ use Rattle.moves.specs.Walks.{Flows}
 use Rattle.lists.specs.Slices.{Kept}
 use Rattle.filling.proofs.Passing.{
   partial-at-most,
-  look-on,
+  look-ground,
+  look-null,
   look-head,
   pass-end,
   pass-room,
@@ -40,11 +41,12 @@ use Rattle.filling.proofs.Flags.{
 }
 use Rattle.downstream.proofs.Flowing.{end-to}
 use Rattle.filling.proofs.Outlets.{flows-ground}
+use Rattle.filling.proofs.Done.{tally-le}
 use Rattle.lists.proofs.Kept.{kept-all, kept-then, sum-set}
 
 -- the bounds of a word
-pub word-bounds : (g : Grid) (outlets l : List ℕ) {i : ℕ} {busy : ℕ → Bool}
-    → Packed (upsCut g outlets) (ground g) (cellCount g) (flagOf outlets) (λ y. getD l y 0) i busy
+pub word-bounds : (g : Grid) (outlets l : List ℕ) {i done : ℕ} {busy : ℕ → Bool}
+    → Packed (upsCut g outlets) (ground g) (cellCount g) (flagOf outlets) (λ y. getD l y 0) i busy done
     → (x : ℕ) → ground g x ≡ true
     → (flagOf outlets x < getD l x 0) × (getD l x 0 ≤ flagOf outlets x + (8 * 2 ^ 25 + cellCount g))
 word-bounds g outlets l p x v = (
@@ -66,15 +68,33 @@ module _ {rows cols : ℕ} {codes outlets l : List ℕ} (f : Fillable rows cols 
 
   -- ---- a cell is looked at
 
-  module _ {i : ℕ} (inside : i < rows * cols) (p : Looked (gridOf rows cols codes) outlets l i) where
-    pub look-no : (getD l i 0 % 2 ^ 30 ≡ 1 → ⊥) → Looked (gridOf rows cols codes) outlets l (i + 1)
+  module _ {i : ℕ} (done : ℕ) (inside : i < rows * cols) (p : Looked (gridOf rows cols codes) outlets l i done) where
+    pub looked-small : done ≤ 4096 * 4096
     unfolding Looked
-    look-no n = rw (add-one i) (look-on (cut-network land outlets) p no-head)
-      where
-        no-head : ground land i ≡ true → getD l i 0 ≡ flagOf outlets i + 1 → ⊥
-        no-head v q = n (flag-mod outlets i (getD l i 0) (omega arith) (omega arith) ∙ omega arith)
+    looked-small = omega (arith, tally-le (p .tally), small)
 
-    pub look-yes : getD l i 0 % 2 ^ 30 ≡ 1 → Down (gridOf rows cols codes) outlets l (i + 1) i
+    -- a word is 0 at a null cell alone
+    pub look-none : getD l i 0 ≡ 0 → Looked (gridOf rows cols codes) outlets l (i + 1) (done + 1)
+    unfolding Looked
+    look-none z = rw (add-one i, add-one done) (look-null (cut-network land outlets) p inside (go (ground land i) refl))
+      where
+        go : (b : Bool) → ground land i ≡ b → ground land i ≡ false
+        go true v = absurd (omega (arith, word-bounds land outlets l p i v))
+        go false v = v
+
+    pub look-no : (getD l i 0 ≡ 0 → ⊥) → (getD l i 0 % 2 ^ 30 ≡ 1 → ⊥)
+        → Looked (gridOf rows cols codes) outlets l (i + 1) done
+    unfolding Looked
+    look-no w n = rw (add-one i) (look-ground (cut-network land outlets) p (go (ground land i) refl) no-head)
+      where
+        go : (b : Bool) → ground land i ≡ b → ground land i ≡ true
+        go true v = v
+        go false v = absurd (w (p .null-word i inside v))
+
+        no-head : getD l i 0 ≡ flagOf outlets i + 1 → ⊥
+        no-head q = n (flag-mod outlets i (getD l i 0) (omega arith) (omega arith) ∙ omega arith)
+
+    pub look-yes : getD l i 0 % 2 ^ 30 ≡ 1 → Down (gridOf rows cols codes) outlets l (i + 1) i done
     unfolding Looked Down
     look-yes q = rw (add-one i) (look-head (cut-network land outlets) p solid word)
       where
@@ -92,7 +112,12 @@ module _ {rows cols : ℕ} {codes outlets l : List ℕ} (f : Fillable rows cols 
 
   -- ---- a cell is passed down
 
-  module _ (i x : ℕ) (d : Down (gridOf rows cols codes) outlets l i x) where
+  module _ (i x done : ℕ) (d : Down (gridOf rows cols codes) outlets l i x done) where
+    -- one cell more is at most as many as there are
+    pub done-small : done ≤ 4096 * 4096
+    unfolding Down
+    done-small = omega (arith, tally-le (d .held .tally), small)
+
     here-bounds : (flagOf outlets x < getD l x 0) × (getD l x 0 ≤ flagOf outlets x + rows * cols)
     unfolding Down
     here-bounds = (
@@ -105,14 +130,14 @@ module _ {rows cols : ℕ} {codes outlets l : List ℕ} (f : Fillable rows cols 
       ),
     )
 
-    ended : nextCut land outlets x ≡ none → Looked land outlets l i
+    ended : nextCut land outlets x ≡ none → Looked land outlets l i (done + 1)
     unfolding Down Looked
-    ended e = pass-end (cut-network land outlets) d e
+    ended e = rw (add-one done) (pass-end (cut-network land outlets) d e)
 
-    pub down-outlet : 2 ^ 30 ≤ getD l x 0 → Looked (gridOf rows cols codes) outlets l i
+    pub down-outlet : 2 ^ 30 ≤ getD l x 0 → Looked (gridOf rows cols codes) outlets l i (done + 1)
     down-outlet h = ended (cut-flagged land outlets x (omega (arith, here-bounds, small)))
 
-    pub down-end : next (gridOf rows cols codes) x ≡ none → Looked (gridOf rows cols codes) outlets l i
+    pub down-end : next (gridOf rows cols codes) x ≡ none → Looked (gridOf rows cols codes) outlets l i (done + 1)
     down-end e = ended (cut-end land outlets x e)
 
     module _ (low : getD l x 0 < 2 ^ 30) {z : ℕ} (to : Flows (gridOf rows cols codes) x z) where
@@ -156,21 +181,21 @@ module _ {rows cols : ℕ} {codes outlets l : List ℕ} (f : Fillable rows cols 
       there = getD-set-same l z w 0 in-z
 
       pub down-on : (getD l z 0 + getD l x 0 - 2 ^ 25) % 2 ^ 30 < 2 ^ 25
-          → Down (gridOf rows cols codes) outlets (set l z (getD l z 0 + getD l x 0 - 2 ^ 25)) i z
+          → Down (gridOf rows cols codes) outlets (set l z (getD l z 0 + getD l x 0 - 2 ^ 25)) i z (done + 1)
       unfolding Down
-      down-on h = pass-on (cut-network land outlets) d (plain land outlets) steps there
-          (λ y n. getD-set-other l z y w 0 n) (omega (arith, h, z-mod, room, there))
+      down-on h = rw (add-one done) (pass-on (cut-network land outlets) d (plain land outlets) steps there
+          (λ y n. getD-set-other l z y w 0 n) (omega (arith, h, z-mod, room, there)))
 
       pub down-stop : 2 ^ 25 ≤ (getD l z 0 + getD l x 0 - 2 ^ 25) % 2 ^ 30
-          → Looked (gridOf rows cols codes) outlets (set l z (getD l z 0 + getD l x 0 - 2 ^ 25)) i
+          → Looked (gridOf rows cols codes) outlets (set l z (getD l z 0 + getD l x 0 - 2 ^ 25)) i (done + 1)
       unfolding Down Looked
-      down-stop h = pass-stop (cut-network land outlets) d (plain land outlets) steps there
-          (λ y n. getD-set-other l z y w 0 n) (omega (arith, small)) (omega (arith, h, z-mod, room, there))
+      down-stop h = rw (add-one done) (pass-stop (cut-network land outlets) d (plain land outlets) steps there
+          (λ y n. getD-set-other l z y w 0 n) (omega (arith, small)) (omega (arith, h, z-mod, room, there)))
 
 -- ---- the way down
 
-module _ {g : Grid} {outlets : List ℕ} {i : ℕ} where
-  ways-end : {l m : List ℕ} → Kept (cellCount g) l m → Looked g outlets m i → Going g outlets i l m End
+module _ {g : Grid} {outlets : List ℕ} {i done : ℕ} where
+  ways-end : {l m : List ℕ} → Kept (cellCount g) l m → Looked g outlets m i done → Going g outlets i done l m End
   ways-end k p = record {
     is-down = λ r c a e. absurd (end-to e);
     is-at = λ r c a e. absurd (end-to e);
@@ -181,9 +206,9 @@ module _ {g : Grid} {outlets : List ℕ} {i : ℕ} where
   }
 
   goes-on : {l m : List ℕ} {row col at : ℕ} → Kept (cellCount g) l m → row < g .rows → col < g .cols
-      → at ≡ row * g .cols + col → Down g outlets m i at → Going g outlets i l m (To row col at)
+      → at ≡ row * g .cols + col → Down g outlets m i at done → Going g outlets i done l m (To row col at)
   goes-on {m = m} {row = row} {col = col} {at = at} k r c s d = record {
-    is-down = λ x y a e. let q : at ≡ a = cc in subst (Down g outlets m i) q d;
+    is-down = λ x y a e. let q : at ≡ a = cc in subst (λ (x : ℕ). Down g outlets m i x done) q d;
     is-at = λ x y a e. let q : at ≡ a = cc in let t : row * g .cols + col ≡ x * g .cols + y = cc in omega arith;
     row-in = λ x y a e. let q : row ≡ x = cc in omega arith;
     col-in = λ x y a e. let q : col ≡ y = cc in omega arith;
@@ -191,20 +216,20 @@ module _ {g : Grid} {outlets : List ℕ} {i : ℕ} where
     kept = k;
   }
 
-  pub passed-end : {l m : List ℕ} → Kept (cellCount g) l m → Looked g outlets m i → Passed g outlets i l m End
+  pub passed-end : {l m : List ℕ} → Kept (cellCount g) l m → Looked g outlets m i done → Passed g outlets i done l m End
   passed-end k p = record { going = ways-end k p; less = λ r c a e. absurd (end-to e) }
 
   pub passed-on : {l m : List ℕ} {row col at : ℕ} → Kept (cellCount g) l m → row < g .rows → col < g .cols
-      → at ≡ row * g .cols + col → Down g outlets m i at → sumOf m < sumOf l
-      → Passed g outlets i l m (To row col at)
+      → at ≡ row * g .cols + col → Down g outlets m i at done → sumOf m < sumOf l
+      → Passed g outlets i done l m (To row col at)
   passed-on k r c s d h = record { going = goes-on k r c s d; less = λ x y a e. h }
 
   pub going-begin : {l : List ℕ} {row col at : ℕ} → row < g .rows → col < g .cols → at ≡ row * g .cols + col
-      → Down g outlets l i at → Going g outlets i l l (To row col at)
+      → Down g outlets l i at done → Going g outlets i done l l (To row col at)
   going-begin r c s d = goes-on kept-all r c s d
 
-  pub going-on : {l m n : List ℕ} {s t : Downstream} → Going g outlets i l m s → Passed g outlets i m n t
-      → Going g outlets i l n t
+  pub going-on : {before : ℕ} {l m n : List ℕ} {s t : Downstream} → Going g outlets i before l m s
+      → Passed g outlets i done m n t → Going g outlets i done l n t
   going-on a p = record {
     is-down = p .going .is-down;
     is-at = p .going .is-at;

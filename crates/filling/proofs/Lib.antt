@@ -1,4 +1,5 @@
 pub mod Totals
+pub mod Done
 pub mod Cut
 pub mod Passing
 pub mod AllLooked

@@ -71,7 +71,7 @@ module _ {rows cols : ℕ} {codes outlets l : List ℕ} (f : Fillable rows cols 
   -- ---- and after the last the grid is looked at up to none
 
   pub looked-begin : Flagged (gridOf rows cols codes) outlets l (length outlets)
-      → Looked (gridOf rows cols codes) outlets l 0
+      → Looked (gridOf rows cols codes) outlets l 0 0
   unfolding Flagged Looked
   looked-begin p =
       let whole = flagging-same (λ c. ap (member c) (take-length outlets)) p in

@@ -15,7 +15,7 @@ use Rattle.ground.proofs.Sums.{one-other}
 use Rattle.ground.proofs.Network.{Network, times}
 use Rattle.ground.proofs.Agreement.{Agrees, noOutlet, agrees-at-most}
 use Rattle.filling.specs.Cut.{cutNext, cutUps}
-use Rattle.filling.specs.Packed.{oneEach, waiting, arrived, Packed, Walking}
+use Rattle.filling.specs.Packed.{oneEach, waiting, arrived, Tally, Packed, Walking}
 use Rattle.filling.proofs.Totals.{
   also,
   also-same,
@@ -29,6 +29,7 @@ use Rattle.filling.proofs.Totals.{
   times-in,
 }
 use Rattle.filling.proofs.Cut.{cut, total-uncut}
+use Rattle.filling.proofs.Done.{tally-none, tally-ground, tally-null, tally-passed}
 
 module _ {S : Type 0} {next : ℕ → Option (Link S)} {ups : ℕ → List (Link S)} {ground : ℕ → Bool} {cellCount : ℕ}
     (𝓝 : Network next ups ground cellCount) where
@@ -85,7 +86,8 @@ module _ {S : Type 0} {next : ℕ → Option (Link S)} {ups : ℕ → List (Link
   module _ {flag : ℕ → ℕ} where
     -- what is passed down so far is the accumulation of the network cut at the cells that are not: so no partial sum is
     -- larger than the number of places
-    module _ {word : ℕ → ℕ} {looked : ℕ} {busy : ℕ → Bool} (p : Packed ups ground cellCount flag word looked busy) where
+    module _ {word : ℕ → ℕ} {looked done : ℕ} {busy : ℕ → Bool}
+        (p : Packed ups ground cellCount flag word looked busy done) where
       pub partial-at-most : (x : ℕ) → ground x ≡ true → p .partial x ≤ cellCount
       unfolding Agrees
       partial-at-most x v = agrees-at-most (cutNext off next) (cutUps off ups) ground cellCount (cut off 𝓝) (p .partial)
@@ -100,7 +102,7 @@ module _ {S : Type 0} {next : ℕ → Option (Link S)} {ups : ℕ → List (Link
     -- at the beginning nothing is passed down
     pub begin : {word : ℕ → ℕ}
         → ((x : ℕ) → ground x ≡ true → word x ≡ flag x + (2 ^ 25 * total ups noOutlet oneEach (ups x) + 1))
-        → ((x : ℕ) → x < cellCount → ground x ≡ false → word x ≡ 0) → Packed ups ground cellCount flag word 0 noOutlet
+        → ((x : ℕ) → x < cellCount → ground x ≡ false → word x ≡ 0) → Packed ups ground cellCount flag word 0 noOutlet 0
     begin h n = record {
       passed = noOutlet;
       partial = oneEach;
@@ -110,12 +112,14 @@ module _ {S : Type 0} {next : ℕ → Option (Link S)} {ups : ℕ → List (Link
       passed-waits = λ x e. absurd (true≢false (sym e));
       is-passed = λ x v l b f. absurd (f (omega arith) refl);
       ahead = λ x v l e. refl;
+      tally = tally-none;
     }
 
-    module _ {word : ℕ → ℕ} {i : ℕ} (p : Packed ups ground cellCount flag word i noOutlet) where
+    module _ {word : ℕ → ℕ} {i done : ℕ} (p : Packed ups ground cellCount flag word i noOutlet done) where
       -- a cell is looked at, and is no headwater
-      pub look-on : (ground i ≡ true → word i ≡ flag i + 1 → ⊥) → Packed ups ground cellCount flag word (suc i) noOutlet
-      look-on f = record {
+      look-on : (ground i ≡ true → word i ≡ flag i + 1 → ⊥) → {m : ℕ} → Tally ground cellCount (p .passed) (suc i) m
+          → Packed ups ground cellCount flag word (suc i) noOutlet m
+      look-on f t = record {
         passed = p .passed;
         partial = p .partial;
         is-partial = p .is-partial;
@@ -124,6 +128,7 @@ module _ {S : Type 0} {next : ℕ → Option (Link S)} {ups : ℕ → List (Link
         passed-waits = p .passed-waits;
         is-passed = λ x v l b g. p .is-passed x v l b (λ h e. by x v l g h e (eqb x i) refl);
         ahead = λ x v h. p .ahead x v (omega arith);
+        tally = t;
       }
         where
           by : (x : ℕ) → ground x ≡ true → waiting ups (p .passed) x ≡ 0 → (suc i ≤ x → p .partial x ≡ 1 → ⊥) → i ≤ x
@@ -135,8 +140,15 @@ module _ {S : Type 0} {next : ℕ → Option (Link S)} {ups : ℕ → List (Link
               more : (x ≡ i → ⊥) → suc i ≤ x
               more n = omega arith
 
+      pub look-ground : ground i ≡ true → (word i ≡ flag i + 1 → ⊥)
+          → Packed ups ground cellCount flag word (suc i) noOutlet done
+      look-ground v f = look-on (λ u. f) (tally-ground (p .tally) v)
+
+      pub look-null : i < cellCount → ground i ≡ false → Packed ups ground cellCount flag word (suc i) noOutlet (suc done)
+      look-null h v = look-on (λ u e. true≢false (sym u ∙ v)) (tally-null (p .tally) h v)
+
       -- a cell is looked at, and is a headwater
-      pub look-head : ground i ≡ true → word i ≡ flag i + 1 → Walking ups ground cellCount flag word (suc i) i
+      pub look-head : ground i ≡ true → word i ≡ flag i + 1 → Walking ups ground cellCount flag word (suc i) i done
       look-head v e = record {
         held = record {
           passed = p .passed;
@@ -147,6 +159,7 @@ module _ {S : Type 0} {next : ℕ → Option (Link S)} {ups : ℕ → List (Link
           passed-waits = p .passed-waits;
           is-passed = λ x v l b g. p .is-passed x v l refl (λ h. g (more x (eqb-false x i b) h));
           ahead = λ x v h. p .ahead x v (omega arith);
+          tally = tally-ground (p .tally) v;
         };
         is-ground = v;
         not-passed = p .ahead i v (omega arith) (omega (arith, p .is-word i v, p .is-partial i v));
@@ -157,7 +170,7 @@ module _ {S : Type 0} {next : ℕ → Option (Link S)} {ups : ℕ → List (Link
           more : (x : ℕ) → (x ≡ i → ⊥) → i ≤ x → suc i ≤ x
           more x n h = omega arith
 
-    module _ {word : ℕ → ℕ} {looked here : ℕ} (w : Walking ups ground cellCount flag word looked here) where
+    module _ {word : ℕ → ℕ} {looked here done : ℕ} (w : Walking ups ground cellCount flag word looked here done) where
       -- ONE MORE CELL IS PASSED DOWN
       abbrev passed₀ : ℕ → Bool
       passed₀ = w .held .passed
@@ -201,8 +214,11 @@ module _ {S : Type 0} {next : ℕ → Option (Link S)} {ups : ℕ → List (Link
               absurd (w .not-ahead (omega arith) (subst (λ (y : ℕ). partial₀ y ≡ 1) s p))
           go false q = also-other passed₀ here x (eqb-false x here q) ∙ w .held .ahead x v h p
 
+      tally₁ : Tally ground cellCount passed₁ looked (suc done)
+      tally₁ = tally-passed (w .held .tally) (𝓝 .bounded here (w .is-ground)) (w .is-ground) (w .not-passed)
+
       -- THE END OF A WAY DOWN: the cell flows nowhere
-      pub pass-end : next here ≡ none → Packed ups ground cellCount flag word looked noOutlet
+      pub pass-end : next here ≡ none → Packed ups ground cellCount flag word looked noOutlet (suc done)
       pass-end e = record {
         passed = passed₁;
         partial = partial₀;
@@ -214,6 +230,7 @@ module _ {S : Type 0} {next : ℕ → Option (Link S)} {ups : ℕ → List (Link
         passed-waits = waits₁;
         is-passed = λ x v l b. is-passed₁ x v l (none-next x);
         ahead = ahead₁;
+        tally = tally₁;
       }
         where
           none-next : (x : ℕ) (h : Link S) → next here ≡ some h → h .cell ≡ x → ⊥
@@ -313,7 +330,7 @@ module _ {S : Type 0} {next : ℕ → Option (Link S)} {ups : ℕ → List (Link
 
           -- what every next state holds, whoever is on the way
           stepped : (busy : ℕ → Bool) → ((x : ℕ) → waiting ups passed₁ x ≡ 0 → busy x ≡ false → x ≡ h .cell → ⊥)
-              → Packed ups ground cellCount flag word′ looked busy
+              → Packed ups ground cellCount flag word′ looked busy (suc done)
           stepped busy away = record {
             passed = passed₁;
             partial = partial₁;
@@ -325,14 +342,15 @@ module _ {S : Type 0} {next : ℕ → Option (Link S)} {ups : ℕ → List (Link
             is-passed = λ x v l b f. is-passed₁ x v l (miss x (away x l b))
                 (λ a p. f a (elsewhere x (away x l b) ∙ p));
             ahead = ahead-step;
+            tally = tally₁;
           }
 
-          held₁ : Packed ups ground cellCount flag word′ looked (λ x. eqb x (h .cell))
+          held₁ : Packed ups ground cellCount flag word′ looked (λ x. eqb x (h .cell)) (suc done)
           held₁ = stepped (λ x. eqb x (h .cell)) (λ x l b. eqb-false x (h .cell) b)
 
           -- on, if nothing is waited for there
           pub pass-on : word′ (h .cell) < flag (h .cell) + 2 ^ 25
-              → Walking ups ground cellCount flag word′ looked (h .cell)
+              → Walking ups ground cellCount flag word′ looked (h .cell) (suc done)
           unfolding held₁ stepped
           pass-on lt = record {
             held = held₁;
@@ -344,7 +362,7 @@ module _ {S : Type 0} {next : ℕ → Option (Link S)} {ups : ℕ → List (Link
 
           -- and else no further
           pub pass-stop : cellCount ≤ 2 ^ 24 → flag (h .cell) + 2 ^ 25 ≤ word′ (h .cell)
-              → Packed ups ground cellCount flag word′ looked noOutlet
+              → Packed ups ground cellCount flag word′ looked noOutlet (suc done)
           unfolding held₁ stepped
           pass-stop small le = stepped noOutlet (λ x l b q. full (ap (waiting ups passed₁) (sym q) ∙ l))
             where

@@ -1,14 +1,14 @@
 -- From the passes to what filling answers and leaves.
 -- Assumes nothing.
 use mathlib.Core.Path.{_≡_, refl, sym, ap, _∙_, subst}
-use mathlib.Core.Bool.{Bool, true, false, true≢false}
+use mathlib.Core.Bool.{Bool, true, false}
 use mathlib.Core.List.{List}
 use Prim.Native.Nat.{ℕ, _+_, _-_, _*_, _%_, _≤_, _<_, _^_}
 use native.Mathlib.Nat.{mul-le-mul}
 use native.Mathlib.Omega.{arith}
 use lib.ListN.{length, getD}
 use lib.Seq.{take-length}
-use Rattle.lists.specs.Lists.{member, allBelow}
+use Rattle.lists.specs.Lists.{member}
 use Rattle.ground.specs.Grid.{Grid, gridOf, ground, inflows}
 use Rattle.ground.specs.Walk.{ends}
 use Rattle.ground.specs.Accumulation.{gathered, subaccumulation, subaccumulations}
@@ -17,16 +17,15 @@ use Rattle.lists.proofs.Lists.{all-below, below-all}
 use Rattle.ground.proofs.Walks.{ends-none}
 use Rattle.ground.proofs.Cells.{ground-within, ground-sub, null-sub}
 use Rattle.ground.proofs.Ground.{grid-length, grid-at}
-use Rattle.filling.specs.Packed.{flagIf, waiting}
-use Rattle.filling.specs.Filling.{Fillable, Within, flagOf, stripIf, Stripped, isSettled}
-use Rattle.filling.specs.Filling.{nextCut, upsCut, Looked, cutFree, filledIf}
+use Rattle.filling.specs.Packed.{flagIf}
+use Rattle.filling.specs.Filling.{Fillable, Within, flagOf, stripIf, Stripped}
+use Rattle.filling.specs.Filling.{nextCut, Looked, cutFree, filledIf}
 use Rattle.lists.specs.Slices.{Kept, Cleared}
 use Rattle.filling.proofs.Cut.{gathered-cut}
-use Rattle.filling.proofs.Passing.{partial-at-most}
-use Rattle.filling.proofs.AllLooked.{settled-word, settled-ends, ends-settled}
+use Rattle.filling.proofs.AllLooked.{settled, settled-word, settled-ends, ends-settled}
+use Rattle.filling.proofs.Done.{tally-all, tally-full}
 use Rattle.filling.proofs.Flags.{flag-mod, cut-network, cut-null}
 use Rattle.filling.proofs.Descents.{word-bounds}
-use Rattle.filling.proofs.Sweeps.{waits-not, settled-less}
 use Rattle.lists.proofs.Kept.{kept-then}
 use Rattle.lists.proofs.Overlaid.{front-is, cleared-front}
 
@@ -42,23 +41,15 @@ module _ {rows cols : ℕ} {codes outlets l : List ℕ} (f : Fillable rows cols 
 
   -- ---- all cells are looked at
 
-  module _ (p : Looked (gridOf rows cols codes) outlets l (rows * cols)) where
+  module _ (done : ℕ) (p : Looked (gridOf rows cols codes) outlets l (rows * cols) done) where
     word-mod : (x : ℕ) → ground land x ≡ true → getD l x 0 % 2 ^ 30 ≡ getD l x 0 - flagOf outlets x
     unfolding Looked
     word-mod x v =
         let b = word-bounds land outlets l p x v in
         flag-mod outlets x (getD l x 0) (omega (arith, b)) (omega (arith, b, small))
 
-    -- NOTHING WAITS
-    module _ (d : allBelow (isSettled l) (rows * cols) ≡ true) where
-      none-waits : (x : ℕ) → ground land x ≡ true → (k m : ℕ) → getD l x 0 ≡ flagOf outlets x + (2 ^ 25 * k + m) → k ≡ 0
-      none-waits x v k m e = omega (
-        arith,
-        e,
-        word-mod x v,
-        settled-less l x (all-below (isSettled l) (rows * cols) d x (ground-within land x v)),
-      )
-
+    -- ALL CELLS ARE DONE, so nothing waits
+    module _ (d : done ≡ rows * cols) where
       pub settled-free : cutFree (gridOf rows cols codes) outlets ≡ true
       unfolding Looked cutFree
       settled-free = below-all (ends (nextCut land outlets) (rows * cols)) (rows * cols)
@@ -66,14 +57,14 @@ module _ {rows cols : ℕ} {codes outlets l : List ℕ} (f : Fillable rows cols 
         where
           go : (x : ℕ) (b : Bool) → ground land x ≡ b → ends (nextCut land outlets) (rows * cols) x ≡ true
           go x true v = settled-ends (cut-network land outlets) p
-              (λ y u. none-waits y u (waiting (upsCut land outlets) (p .passed) y) (p .partial y) (p .is-word y u)) x v
+              (λ y u. p .passed-waits y (tally-full (p .tally) d y (ground-within land y u) u)) x v
           go x false v = ends-none (nextCut land outlets) (rows * cols) x (cut-null land outlets x v)
 
       words : (x : ℕ) → ground land x ≡ true
           → getD l x 0 ≡ flagOf outlets x + gathered (inflows land) (isOutlet land outlets) (rows * cols) x
       unfolding Looked
       words x v = settled-word (cut-network land outlets) p
-          (λ y u. none-waits y u (waiting (upsCut land outlets) (p .passed) y) (p .partial y) (p .is-word y u)) x v
+          (λ y u. p .passed-waits y (tally-full (p .tally) d y (ground-within land y u) u)) x v
           ∙ ap (λ (n : ℕ). flagOf outlets x + n) (gathered-cut (isOutlet land outlets) (inflows land) (rows * cols) x)
 
       stripped : (b : Bool) (w n : ℕ) → w % 2 ^ 30 ≡ w - flagIf b → w ≡ flagIf b + n → stripIf b w ≡ n
@@ -107,28 +98,15 @@ module _ {rows cols : ℕ} {codes outlets l : List ℕ} (f : Fillable rows cols 
           long : length (subaccumulations land outlets) ≡ rows * cols
           long = grid-length (subaccumulation land outlets) (rows * cols)
 
-    -- SOMETHING WAITS
-    pub waits-ring : allBelow (isSettled l) (rows * cols) ≡ false → cutFree (gridOf rows cols codes) outlets ≡ false
+    -- SOME CELL IS NOT DONE
+    pub waits-ring : (done ≡ rows * cols → ⊥) → cutFree (gridOf rows cols codes) outlets ≡ false
     unfolding Looked cutFree
     waits-ring d = go (cutFree land outlets) refl
       where
-        dry : cutFree land outlets ≡ true → (x : ℕ) (b : Bool) → ground land x ≡ b → x < rows * cols
-            → isSettled l x ≡ true
-        dry e x true v h = waits-not l x (omega (
-          arith,
-          small,
-          word-mod x v,
-          p .is-word x v,
-          ends-settled (cut-network land outlets) p
-              (λ y u. all-below (ends (nextCut land outlets) (rows * cols)) (rows * cols) e y
-              (ground-within land y u)) x v,
-          partial-at-most (cut-network land outlets) p x v,
-        ))
-        dry e x false v h = waits-not l x (omega (arith, p .null-word x h v))
-
         go : (b : Bool) → cutFree land outlets ≡ b → cutFree land outlets ≡ false
-        go true e = absurd (true≢false
-            (sym (below-all (isSettled l) (rows * cols) (λ x h. dry e x (ground land x) refl h)) ∙ d))
+        go true e = absurd (d (tally-all (p .tally) (λ x v. settled (cut-network land outlets) p x v
+            (ends-settled (cut-network land outlets) p
+            (λ y u. all-below (ends (nextCut land outlets) (rows * cols)) (rows * cols) e y (ground-within land y u)) x v))))
         go false e = e
 
   pub cleared-filled : {old m : List ℕ} → Kept (rows * cols) old l → Cleared (rows * cols) (rows * cols) l m

@@ -27,9 +27,9 @@ module _ {P : List ℕ → ℕ → Type 0} {rows cols : ℕ} {old new : List ℕ
   scan-row h = in-rows row col rows cols (omega (arith, s .is-at))
 
   -- and one cell on
-  pub scan-on : {row′ col′ : ℕ} {next : List ℕ} → at < rows * cols
+  pub scan-on : {P′ : List ℕ → ℕ → Type 0} {row′ col′ : ℕ} {next : List ℕ} → at < rows * cols
       → (row′ * cols + col′ ≡ row * cols + col + 1) × (col′ < cols)
-      → P next (at + 1) → Kept (rows * cols) new next → Scan P rows cols old next row′ col′ (at + 1)
+      → P′ next (at + 1) → Kept (rows * cols) new next → Scan P′ rows cols old next row′ col′ (at + 1)
   scan-on h e p k = record {
     is-at = omega (arith, e .0, s .is-at);
     col-in = e .1;

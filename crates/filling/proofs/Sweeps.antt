@@ -1,7 +1,7 @@
--- One turn of each loop over the places or the outlets: taking flags away, asking who waits.
+-- The first outlets and one more, and one turn of taking flags away.
 -- Assumes nothing.
 use mathlib.Core.Path.{_≡_, refl, sym, ap, _∙_, subst}
-use mathlib.Core.Bool.{Bool, true, false, _&&_, _||_, or-true, or-false, or-assoc}
+use mathlib.Core.Bool.{Bool, true, false, _||_, or-true, or-false, or-assoc}
 use mathlib.Core.List.{List, [], _∷_, _++_}
 use Prim.Native.Nat.{ℕ, suc, _+_, _%_, _≤_, _<_, _^_}
 use native.Mathlib.Numerals.{add-one}
@@ -9,9 +9,9 @@ use native.Mathlib.Omega.{arith}
 use lib.ListN.{length, getD, set, take}
 use lib.Seq.{getD-set-same, getD-set-other, take-suc}
 use lib.Dec.{eqb}
-use borrow.Author.Tests.{eqb-true, eqb-false, ltb-true, lt-ltb, le-ltb}
-use Rattle.lists.specs.Lists.{member, allBelow}
-use Rattle.filling.specs.Filling.{stripIf, Stripped, isSettled}
+use borrow.Author.Tests.{eqb-true, eqb-false}
+use Rattle.lists.specs.Lists.{member}
+use Rattle.filling.specs.Filling.{stripIf, Stripped}
 use Rattle.lists.proofs.Kept.{kept-all, kept-then, kept-set}
 
 -- ---- the first j outlets and one more
@@ -62,21 +62,3 @@ strip-step {n} {j} {o} {outlets} {l} {m} s h i r f = rw (add-one j) (record {
         ∙ sym (ap (λ (b : Bool). stripIf b (getD l x 0)) (member-it outlets j h x (at-o x e)))
     go x false e = getD-set-other m o x (getD m o 0 % 2 ^ 30) 0 (λ q. eqb-false o x e (sym q)) ∙ f .words x
         ∙ sym (ap (λ (b : Bool). stripIf b (getD l x 0)) (member-other outlets j h x (at-o x e)))
-
--- ---- asking who waits
-
--- one cell more is asked, whatever the others said
-pub below-one : (f : ℕ → Bool) (i : ℕ) {all b : Bool} → all ≡ allBelow f i → f i ≡ b → (b && all) ≡ allBelow f (i + 1)
-below-one f i e q = rw (add-one i, q, e)
-
-pub waits-still : (l : List ℕ) (x : ℕ) → 2 ^ 25 ≤ getD l x 0 % 2 ^ 30 → isSettled l x ≡ false
-unfolding isSettled
-waits-still l x h = le-ltb (getD l x 0 % 2 ^ 30) (2 ^ 25) h
-
-pub waits-not : (l : List ℕ) (x : ℕ) → getD l x 0 % 2 ^ 30 < 2 ^ 25 → isSettled l x ≡ true
-unfolding isSettled
-waits-not l x h = lt-ltb (getD l x 0 % 2 ^ 30) (2 ^ 25) h
-
-pub settled-less : (l : List ℕ) (x : ℕ) → isSettled l x ≡ true → getD l x 0 % 2 ^ 30 < 2 ^ 25
-unfolding isSettled
-settled-less l x h = ltb-true (getD l x 0 % 2 ^ 30) (2 ^ 25) h

@@ -6,7 +6,6 @@ use mathlib.Core.List.{List}
 use mathlib.Core.Option.{Option}
 use Prim.Native.Nat.{ℕ, _+_, _*_, _%_, _≤_, _<_, _^_}
 use lib.ListN.{length, getD, take}
-use lib.Dec.{ltb}
 use Rattle.downstream.specs.declared.Downstream.{Downstream}
 use Rattle.downstream.specs.declared.Downstream.the-variants.{End, To}
 use Rattle.lists.specs.Lists.{member, allBelow, sumOf}
@@ -50,10 +49,6 @@ pub record Stripped (n : ℕ) (outlets : List ℕ) (j : ℕ) (old new : List ℕ
   pub kept : Kept n old new
   pub words : (x : ℕ) → getD new x 0 ≡ stripIf (member x (take j outlets)) (getD old x 0)
 
--- does the cell of this word wait for nothing?
-unfoldable pub isSettled : List ℕ → ℕ → Bool
-isSettled words x = ltb (getD words x 0 % 2 ^ 30) (2 ^ 25)
-
 module _ (g : Grid) (outlets : List ℕ) where
   -- the network cut at the outlets
   abbrev pub nextCut : ℕ → Option (Link Dir)
@@ -66,26 +61,26 @@ module _ (g : Grid) (outlets : List ℕ) where
   unfoldable pub Flagged : List ℕ → ℕ → Type 0
   Flagged words j = Flagging (inflows g) (ground g) (cellCount g) (λ x. getD words x 0) (λ c. member c (take j outlets))
 
-  -- the cells before n are looked at, and nothing is on the way down
-  unfoldable pub Looked : List ℕ → ℕ → Type 0
-  Looked words n = Packed upsCut (ground g) (cellCount g) (flagOf outlets) (λ x. getD words x 0) n (λ x. false)
+  -- the cells before n are looked at, so many are done, and nothing is on the way down
+  unfoldable pub Looked : List ℕ → ℕ → ℕ → Type 0
+  Looked words n done = Packed upsCut (ground g) (cellCount g) (flagOf outlets) (λ x. getD words x 0) n (λ x. false) done
 
   -- they are, and the way down is at a cell
-  unfoldable pub Down : List ℕ → ℕ → ℕ → Type 0
-  Down words n here = Walking upsCut (ground g) (cellCount g) (flagOf outlets) (λ x. getD words x 0) n here
+  unfoldable pub Down : List ℕ → ℕ → ℕ → ℕ → Type 0
+  Down words n here done = Walking upsCut (ground g) (cellCount g) (flagOf outlets) (λ x. getD words x 0) n here done
 
   -- a way down: it is at a cell, or at its end
-  pub record Going (looked : ℕ) (old new : List ℕ) (r : Downstream) : Type 0 where
-    pub is-down : (row col at : ℕ) → r ≡ To row col at → Down new looked at
+  pub record Going (looked done : ℕ) (old new : List ℕ) (r : Downstream) : Type 0 where
+    pub is-down : (row col at : ℕ) → r ≡ To row col at → Down new looked at done
     pub is-at : (row col at : ℕ) → r ≡ To row col at → at ≡ row * g .cols + col
     pub row-in : (row col at : ℕ) → r ≡ To row col at → row < g .rows
     pub col-in : (row col at : ℕ) → r ≡ To row col at → col < g .cols
-    pub is-done : r ≡ End → Looked new looked
+    pub is-done : r ≡ End → Looked new looked done
     pub kept : Kept (cellCount g) old new
 
   -- what one step down leaves: where the way goes on, the words add up to less
-  pub record Passed (looked : ℕ) (old new : List ℕ) (r : Downstream) : Type 0 where
-    pub going : Going looked old new r
+  pub record Passed (looked done : ℕ) (old new : List ℕ) (r : Downstream) : Type 0 where
+    pub going : Going looked done old new r
     pub less : (row col at : ℕ) → r ≡ To row col at → sumOf new < sumOf old
 
   -- does every walk come to its end or to an outlet?

@@ -5,10 +5,11 @@
 -- where `flag` marks an outlet, `waiting` is how many inflows are not yet passed down, and `partial` is 1 and the sum
 -- of those that are. The word of a null cell is 0. Assumes nothing.
 use mathlib.Core.Path.{_≡_}
-use mathlib.Core.Bool.{Bool, true, false, cond, not}
+use mathlib.Core.Bool.{Bool, true, false, cond, not, _&&_, _||_}
 use mathlib.Core.List.{List}
 use Prim.Native.Nat.{ℕ, suc, _+_, _*_, _≤_, _<_, _^_}
-use lib.Dec.{eqb}
+use lib.Dec.{eqb, ltb}
+use Rattle.lists.specs.Lists.{howMany}
 use Rattle.ground.specs.Grid.{Link}
 use Rattle.ground.specs.Accumulation.{total}
 
@@ -18,6 +19,15 @@ oneEach c = 1
 -- the flag in an outlet's word
 abbrev pub flagIf : Bool → ℕ
 flagIf b = cond b (2 ^ 30) 0
+
+-- a cell is done that is passed down, or null and looked at
+abbrev pub isDone : (ℕ → Bool) → (ℕ → Bool) → ℕ → ℕ → Bool
+isDone ground passed looked x = passed x || (ltb x looked && not (ground x))
+
+-- so many cells are done, and none but cells of ground are passed down
+pub record Tally (ground : ℕ → Bool) (cellCount : ℕ) (passed : ℕ → Bool) (looked done : ℕ) : Type 0 where
+  pub only-ground : (x : ℕ) → passed x ≡ true → ground x ≡ true
+  pub is-done : howMany (isDone ground passed looked) cellCount ≡ done
 
 module _ {S : Type 0} (ups : ℕ → List (Link S)) where
   -- how many inflows of a cell are not yet passed down
@@ -36,7 +46,7 @@ module _ {S : Type 0} (ups : ℕ → List (Link S)) where
   module _ (ground : ℕ → Bool) (cellCount : ℕ) (flag : ℕ → ℕ) where
     -- PASSING DOWN: the cells before `looked` are looked at, and those of `busy` are on the way down. What waits for
     -- nothing is passed down, but for those on the way and the headwaters ahead, and of these none is
-    pub record Packed (word : ℕ → ℕ) (looked : ℕ) (busy : ℕ → Bool) : Type 0 where
+    pub record Packed (word : ℕ → ℕ) (looked : ℕ) (busy : ℕ → Bool) (done : ℕ) : Type 0 where
       pub passed : ℕ → Bool
       pub partial : ℕ → ℕ
       pub is-partial : (x : ℕ) → ground x ≡ true → partial x ≡ suc (arrived passed partial x)
@@ -46,10 +56,11 @@ module _ {S : Type 0} (ups : ℕ → List (Link S)) where
       pub is-passed : (x : ℕ) → ground x ≡ true → waiting passed x ≡ 0 → busy x ≡ false
           → (looked ≤ x → partial x ≡ 1 → ⊥) → passed x ≡ true
       pub ahead : (x : ℕ) → ground x ≡ true → looked ≤ x → partial x ≡ 1 → passed x ≡ false
+      pub tally : Tally ground cellCount passed looked done
 
     -- on the way down, at a cell that waits for nothing and is to be passed down next
-    pub record Walking (word : ℕ → ℕ) (looked here : ℕ) : Type 0 where
-      pub held : Packed word looked (λ x. eqb x here)
+    pub record Walking (word : ℕ → ℕ) (looked here done : ℕ) : Type 0 where
+      pub held : Packed word looked (λ x. eqb x here) done
       pub is-ground : ground here ≡ true
       pub not-passed : held .passed here ≡ false
       pub waits : waiting (held .passed) here ≡ 0

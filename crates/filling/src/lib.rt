@@ -1,8 +1,9 @@
 // Accumulation and subaccumulation by counted inflows, in no memory but the lent grid.
 //
 // While at work a place holds flag * 2^30 + waiting * 2^25 + partial. The flag is 1 at an outlet, `waiting` is how many
-// inflows are not yet passed down, and `partial` is 1 and the sum of those that are. Two parameters serve the contracts
-// alone: `outlets` in all that look and go down, since the flags tell the outlets, and `looked`.
+// inflows are not yet passed down, and `partial` is 1 and the sum of those that are. A cell is done that is passed down,
+// or null and looked at. Some parameters serve the contracts alone: `outlets` in all that look and go down, since the
+// flags tell the outlets, and `looked` and `done` of a step.
 use counting::INFLOW;
 use counting::count_all;
 use downstream::Downstream;
@@ -11,14 +12,12 @@ use downstream::offsets;
 use lists::clear;
 use lists::index_of;
 use moves::Cell;
-ghost use mathlib.Core.Path.{_≡_};
 ghost use Prim.Native.Nat.{_+_, _*_, _≤_, _<_};
 ghost use lib.ListN.{length};
-ghost use Rattle.lists.specs.Lists.{allBelow};
 ghost use Rattle.lists.specs.Slices.{Kept};
 ghost use Rattle.ground.specs.Grid.{gridOf};
 ghost use Rattle.filling.specs.Filling.{Fillable, FillableAt, Within, Flagged, Stripped};
-ghost use Rattle.filling.specs.Filling.{Looked, Down, Passed, isSettled, Fills};
+ghost use Rattle.filling.specs.Filling.{Looked, Down, Passed, Fills};
 
 // The flag of an outlet.
 const FLAG: u32 = 1073741824;
@@ -78,11 +77,12 @@ fn pass_down(
     col: usize,
     at: usize,
     looked: usize,
+    done: u32,
 ) -> Downstream
     requires { ⌜ FillableAt rows cols (now codes) (now outlets) (now steps) (now words) row col at ⌝ }
-    requires { ⌜ Down (gridOf rows cols (now codes)) (now outlets) (now words) looked at ⌝ }
-    ensures { λ r. ⌜ Passed (gridOf rows cols (now (codes .entry))) (now (outlets .entry)) looked (now (words .entry))
-        (now (words .exit)) r ⌝ }
+    requires { ⌜ Down (gridOf rows cols (now codes)) (now outlets) (now words) looked at done ⌝ }
+    ensures { λ r. ⌜ Passed (gridOf rows cols (now (codes .entry))) (now (outlets .entry)) looked (done + 1)
+        (now (words .entry)) (now (words .exit)) r ⌝ }
 {
     let word = words[at];
     if word >= FLAG {
@@ -110,7 +110,7 @@ fn pass_down(
     }
 }
 
-// The way down from a headwater.
+// The way down from a headwater. It hands back how many cells are done.
 fn walk_down(
     rows: usize,
     cols: usize,
@@ -121,30 +121,33 @@ fn walk_down(
     row: usize,
     col: usize,
     at: usize,
-)
+    done: u32,
+) -> u32
     requires { ⌜ FillableAt rows cols (now codes) (now outlets) (now steps) (now words) row col at ⌝ }
-    requires { ⌜ Down (gridOf rows cols (now codes)) (now outlets) (now words) (at + 1) at ⌝ }
-    ensures looks { λ _. ⌜ Looked (gridOf rows cols (now (codes .entry))) (now (outlets .entry)) (now (words .exit))
-        (at + 1) ⌝ }
+    requires { ⌜ Down (gridOf rows cols (now codes)) (now outlets) (now words) (at + 1) at done ⌝ }
+    ensures looks { λ r. ⌜ Looked (gridOf rows cols (now (codes .entry))) (now (outlets .entry)) (now (words .exit))
+        (at + 1) r ⌝ }
     ensures keeps { λ _. ⌜ Kept (rows * cols) (now (words .entry)) (now (words .exit)) ⌝ }
 {
     let looked = at + 1;
+    let mut n = done;
     let mut s = Downstream::To { row, col, at };
     loop {
         match s {
-            Downstream::End => return,
+            Downstream::End => return n,
             Downstream::To {
                 row: r,
                 col: c,
                 at: x,
             } => {
-                s = pass_down(rows, cols, codes, outlets, steps, words, r, c, x, looked);
+                s = pass_down(rows, cols, codes, outlets, steps, words, r, c, x, looked, n);
+                n += 1;
             }
         }
     }
 }
 
-// Looks at a cell, and goes down from it if it is a headwater.
+// Looks at a cell, and goes down from it if it is a headwater. It hands back how many cells are done.
 fn look_at(
     rows: usize,
     cols: usize,
@@ -155,35 +158,54 @@ fn look_at(
     row: usize,
     col: usize,
     at: usize,
-)
+    done: u32,
+) -> u32
     requires { ⌜ FillableAt rows cols (now codes) (now outlets) (now steps) (now words) row col at ⌝ }
-    requires { ⌜ Looked (gridOf rows cols (now codes)) (now outlets) (now words) at ⌝ }
-    ensures looks { λ _. ⌜ Looked (gridOf rows cols (now (codes .entry))) (now (outlets .entry)) (now (words .exit))
-        (at + 1) ⌝ }
+    requires { ⌜ Looked (gridOf rows cols (now codes)) (now outlets) (now words) at done ⌝ }
+    ensures looks { λ r. ⌜ Looked (gridOf rows cols (now (codes .entry))) (now (outlets .entry)) (now (words .exit))
+        (at + 1) r ⌝ }
     ensures keeps { λ _. ⌜ Kept (rows * cols) (now (words .entry)) (now (words .exit)) ⌝ }
 {
-    if words[at] % FLAG == 1 {
-        walk_down(rows, cols, codes, outlets, steps, words, row, col, at);
+    let word = words[at];
+    if word == 0 {
+        return done + 1;
     }
+    if word % FLAG == 1 {
+        return walk_down(rows, cols, codes, outlets, steps, words, row, col, at, done);
+    }
+    done
 }
 
-// Looks at every cell.
-fn look_at_all(rows: usize, cols: usize, codes: &[u8], outlets: &[u32], words: &mut [u32])
+// Looks at every cell. It hands back how many are done.
+fn look_at_all(rows: usize, cols: usize, codes: &[u8], outlets: &[u32], words: &mut [u32]) -> u32
     requires { ⌜ Fillable rows cols (now codes) (now outlets) (now words) ⌝ }
-    requires { ⌜ Looked (gridOf rows cols (now codes)) (now outlets) (now words) 0 ⌝ }
-    ensures looks { λ _. ⌜ Looked (gridOf rows cols (now (codes .entry))) (now (outlets .entry)) (now (words .exit))
-        (rows * cols) ⌝ }
+    requires { ⌜ Looked (gridOf rows cols (now codes)) (now outlets) (now words) 0 0 ⌝ }
+    ensures looks { λ r. ⌜ Looked (gridOf rows cols (now (codes .entry))) (now (outlets .entry)) (now (words .exit))
+        (rows * cols) r ⌝ }
     ensures keeps { λ _. ⌜ Kept (rows * cols) (now (words .entry)) (now (words .exit)) ⌝ }
 {
     let n = rows * cols;
     let steps = offsets(cols);
+    let mut done: u32 = 0;
     let mut p = Cell { row: 0, col: 0 };
     let mut at: usize = 0;
     while at < n {
-        look_at(rows, cols, codes, outlets, &steps, words, p.row, p.col, at);
+        done = look_at(
+            rows,
+            cols,
+            codes,
+            outlets,
+            &steps,
+            words,
+            p.row,
+            p.col,
+            at,
+            done,
+        );
         p = p.next(cols);
         at += 1;
     }
+    done
 }
 
 // Takes the flags of the outlets away.
@@ -199,23 +221,6 @@ fn strip(n: usize, outlets: &[u32], words: &mut [u32])
         words[at] = word % FLAG;
         j += 1;
     }
-}
-
-// Does no cell wait any more? All are looked at, several at once.
-fn settled(n: usize, words: &[u32]) -> bool
-    requires { ⌜ n ≤ length (now words) ⌝ }
-    ensures { λ r. ⌜ r ≡ allBelow (isSettled (now (words .entry))) n ⌝ }
-{
-    let mut all = true;
-    let mut i: usize = 0;
-    while i < n {
-        let word = words[i] % FLAG;
-        i += 1;
-        if word >= INFLOW {
-            all = false;
-        }
-    }
-    all
 }
 
 // Fills the first rows * cols places of a lent grid with the subaccumulation, which is the accumulation where there
@@ -234,8 +239,8 @@ pub fn fill(
     let n = rows * cols;
     count_all(rows, cols, codes, subaccumulation);
     flag(rows, cols, codes, outlets, subaccumulation);
-    look_at_all(rows, cols, codes, outlets, subaccumulation);
-    if !settled(n, subaccumulation) {
+    let done = look_at_all(rows, cols, codes, outlets, subaccumulation);
+    if index_of(done) != n {
         clear(n, subaccumulation);
         return false;
     }

@@ -3,7 +3,6 @@
 use mathlib.Core.Path.{sym, _∙_}
 use Prim.Native.Nat.{_*_}
 use borrow.Author.Needs.{needs}
-use borrow.Author.Tests.{not-true, not-false}
 use Rattle.lists.specs.Slices.{Kept}
 use Rattle.lists.proofs.Kept.{kept-then}
 use Rattle.counting.proofs.Rows.{counting-kept}
@@ -59,8 +58,8 @@ look-at-all-requires c κs =
     let f = fillable-kept (kept-flagged p) (flag-start p .pre) in
     (f, looked-begin f (p .flag .ensures .0))
 
-settled-requires : tie.Need-settled-requires
-settled-requires c κs = search needs
+index-of-requires : tie.Need-index-of-requires
+index-of-requires c κs = search needs
 
 clear-requires : tie.Need-clear-requires
 clear-requires c κs = search needs
@@ -70,29 +69,27 @@ same-length c = search needs
 
 returns : tie.Need-returns
 returns c =
-    let l = c .before .before .before .before .before .before .before .before .before in
-    let s = c .before .before .before .before .before .settled in
-    let d = sym (s .ensures) ∙ not-true (s .result) (c .before .before .before .before .if1 .taken) in
+    let l = c .before .before .before .before .before .before .before .before in
+    let e = c .before .before .before .before .before .index-of .ensures .0 in
     record {
-      answers = sym (waits-ring (looked l) (l .look-at-all .ensures .0) d);
+      answers = sym (waits-ring (looked l) _ (l .look-at-all .ensures .0) (λ d. c .before .before .before .before .if1 .taken (e ∙ d)));
       leaves = cleared-filled (looked l) (kept-looked l) (c .before .before .clear .ensures);
     }
 
 strip-requires : tie.Need-strip-requires
-strip-requires c κs = let f = looked (c .before .before .before .before .before .before) in (f .has-words, outlets-within f)
+strip-requires c κs = let f = looked (c .before .before .before .before .before) in (f .has-words, outlets-within f)
 
 same-length-2 : tie.Need-same-length-2
 same-length-2 c = search needs
 
 returns-2 : tie.Need-returns-2
 returns-2 c =
-    let l = c .before .before .before .before .before .before .before .before .before in
-    let s = c .before .before .before .before .before .settled in
-    let d = sym (s .ensures) ∙ not-false (s .result) (c .before .before .before .before .if1 .left) in
+    let l = c .before .before .before .before .before .before .before .before in
+    let d = sym (c .before .before .before .before .before .index-of .ensures .0) ∙ c .before .before .before .before .if1 .left in
     let p = l .look-at-all .ensures .0 in
     record {
-      answers = sym (settled-free (looked l) p d);
-      leaves = settled-filled (looked l) p d (kept-looked l) (c .before .before .strip .ensures);
+      answers = sym (settled-free (looked l) _ p d);
+      leaves = settled-filled (looked l) _ p d (kept-looked l) (c .before .before .strip .ensures);
     }
 
 pub fill-spec : {M : Type 1} → statement M
@@ -103,7 +100,7 @@ fill-spec =
     count-all-requires
     flag-requires
     look-at-all-requires
-    settled-requires
+    index-of-requires
     clear-requires
     same-length
     returns

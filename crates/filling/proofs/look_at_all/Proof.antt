@@ -12,11 +12,11 @@ use Rattle.filling.proofs.look_at_all.Statement.{statement}
 use Rattle.filling.proofs.look_at_all.Tie as tie
 
 abbrev Inv-loop : tie.InvT-loop
-Inv-loop rows cols codes outlets words₀ n steps p₀ at₀ words p at =
-    Scan (Looked (gridOf rows cols codes) outlets) rows cols words₀ words (p .row) (p .col) at
+Inv-loop rows cols codes outlets words₀ n steps done₀ p₀ at₀ words done p at =
+    Scan (λ l x. Looked (gridOf rows cols codes) outlets l x done) rows cols words₀ words (p .row) (p .col) at
 
 abbrev μ-loop : tie.MeasureT-loop
-μ-loop rows cols codes outlets words₀ n steps p₀ at₀ words p at = rows * cols - at
+μ-loop rows cols codes outlets words₀ n steps done₀ p₀ at₀ words done p at = rows * cols - at
 
 mul-n : tie.Need-mul-n Inv-loop μ-loop
 mul-n c = omega (arith, size (c .before .before .before .pre .0 .grid .sides))

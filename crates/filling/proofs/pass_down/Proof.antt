@@ -35,7 +35,7 @@ slice-read-word c = let s = c .before .before .before .before in omega (arith, a
 
 returns : tie.Need-returns
 returns c = let s = c .before .before .before .before .before in
-    passed-end kept-all (down-outlet (s .pre .0 .fillable) _ _ (s .pre .1) (c .if1 .taken))
+    passed-end kept-all (down-outlet (s .pre .0 .fillable) _ _ _ (s .pre .1) (c .if1 .taken))
 
 downstream-of-requires : tie.Need-downstream-of-requires
 downstream-of-requires c κs = search needs
@@ -53,10 +53,10 @@ slice-read-below : tie.Need-slice-read-below
 slice-read-below c = omega (arith, to-inside (c .before), start (c .before) .pre .0 .fillable .has-words)
 
 add-sum : tie.Need-add-sum
-add-sum c = let s = start (c .before) in omega (arith, down-fits (s .pre .0 .fillable) _ _ (s .pre .1) (c .before .before .before .before .before .if1 .left) (to (c .before)))
+add-sum c = let s = start (c .before) in omega (arith, down-fits (s .pre .0 .fillable) _ _ _ (s .pre .1) (c .before .before .before .before .before .if1 .left) (to (c .before)))
 
 sub-sum : tie.Need-sub-sum
-sub-sum c = let s = start (c .before) in omega (arith, down-fits (s .pre .0 .fillable) _ _ (s .pre .1) (c .before .before .before .before .before .if1 .left) (to (c .before)))
+sub-sum c = let s = start (c .before) in omega (arith, down-fits (s .pre .0 .fillable) _ _ _ (s .pre .1) (c .before .before .before .before .before .if1 .left) (to (c .before)))
 
 mul-words : tie.Need-mul-words
 mul-words c = omega (arith, to-inside (c .before), at-inside (start (c .before) .pre .0))
@@ -70,12 +70,12 @@ same-length c = search needs
 returns-2 : tie.Need-returns-2
 returns-2 c = let s = start (c .before .before) in
     passed-end (kept-set _ _ (to-inside (c .before .before)))
-    (down-stop (s .pre .0 .fillable) _ _ (s .pre .1) (c .before .before .before .before .before .before .if1 .left) (to (c .before .before)) (c .if2 .taken))
+    (down-stop (s .pre .0 .fillable) _ _ _ (s .pre .1) (c .before .before .before .before .before .before .if1 .left) (to (c .before .before)) (c .if2 .taken))
 
 returns-3 : tie.Need-returns-3
 returns-3 c = let s = c .before .before .before .before .before .before .before .before in
     passed-end kept-all
-    (down-end (s .pre .0 .fillable) _ _ (s .pre .1)
+    (down-end (s .pre .0 .fillable) _ _ _ (s .pre .1)
     (c .before .before .downstream-of .ensures .ends-here (c .enum-told .given .1)))
 
 same-length-2 : tie.Need-same-length-2
@@ -87,8 +87,8 @@ returns-4 c =
     let t = c .before .before .before .before .before .downstream-of .ensures in
     let e = c .before .before .before .r .given .1 in
     passed-on (kept-set _ _ (to-inside (c .before .before))) (t .row-in _ _ _ e) (t .col-in _ _ _ e) (t .is-at _ _ _ e)
-    (down-on (s .pre .0 .fillable) _ _ (s .pre .1) (c .before .before .before .before .before .before .if1 .left) (to (c .before .before)) (c .if2 .left))
-    (down-less (s .pre .0 .fillable) _ _ (s .pre .1) (c .before .before .before .before .before .before .if1 .left) (to (c .before .before)))
+    (down-on (s .pre .0 .fillable) _ _ _ (s .pre .1) (c .before .before .before .before .before .before .if1 .left) (to (c .before .before)) (c .if2 .left))
+    (down-less (s .pre .0 .fillable) _ _ _ (s .pre .1) (c .before .before .before .before .before .before .if1 .left) (to (c .before .before)))
 
 pub pass-down-spec : {M : Type 1} → statement M
 pass-down-spec =

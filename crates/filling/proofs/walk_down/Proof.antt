@@ -6,16 +6,16 @@ use Rattle.lists.specs.Lists.{sumOf}
 use Rattle.ground.specs.Grid.{gridOf}
 use Rattle.filling.specs.Filling.{Going}
 use Rattle.filling.proofs.Kept.{fillable-kept, at-inside}
-use Rattle.filling.proofs.Descents.{going-begin, going-on, ahead, ahead-less}
+use Rattle.filling.proofs.Descents.{done-small, going-begin, going-on, ahead, ahead-less}
 use Rattle.filling.proofs.walk_down.Statement.{statement}
 use Rattle.filling.proofs.walk_down.Tie as tie
 
 abbrev Inv-loop : tie.InvT-loop
-Inv-loop rows cols codes outlets steps words₀ row col at looked s₀ words s = Going
-    (gridOf rows cols codes) outlets looked words₀ words s
+Inv-loop rows cols codes outlets steps words₀ row col at done looked n₀ s₀ words n s = Going
+    (gridOf rows cols codes) outlets looked n words₀ words s
 
 abbrev μ-loop : tie.MeasureT-loop
-μ-loop rows cols codes outlets steps words₀ row col at looked s₀ words s = ahead s (sumOf words)
+μ-loop rows cols codes outlets steps words₀ row col at done looked n₀ s₀ words n s = ahead s (sumOf words)
 
 add-looked : tie.Need-add-looked Inv-loop μ-loop
 add-looked c = omega (arith, at-inside (c .before .before .before .pre .0))
@@ -58,6 +58,15 @@ pass-down-requires c κs =
       g .is-down _ _ _ e,
     )
 
+add-n : tie.Need-add-n Inv-loop μ-loop
+add-n c =
+    let g = c .before .before .before .before .before .before .before .loop .inv in
+    omega (
+      arith,
+      done-small (fillable-kept (g .kept) (c .before .before .before .before .before .before .before .before .before .before .before .pre .0 .fillable)) _ _ _
+          (g .is-down _ _ _ (c .before .before .before .before .before .s .given .1)),
+    )
+
 loop-less : tie.Need-loop-less Inv-loop μ-loop
 loop-less c = ahead-less (c .before .before .before .before .before .s .given .1)
     (c .before .before .pass-down .ensures .less)
@@ -78,5 +87,6 @@ walk-down-spec =
     returns
     enum-known-s
     pass-down-requires
+    add-n
     loop-less
     loop-again)

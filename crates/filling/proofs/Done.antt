@@ -1,0 +1,177 @@
+-- How many cells are done: those that are passed down, and null cells that are looked at.
+-- Assumes nothing.
+use mathlib.Core.Path.{_≡_, refl, sym, ap, ap₂, _∙_}
+use mathlib.Core.Bool.{Bool, true, false, cond, not, _&&_, _||_, or-true, or-false, true≢false}
+use Prim.Native.Nat.{ℕ, zero, suc, _+_, _≤_, _<_}
+use native.Mathlib.Omega.{arith}
+use lib.Dec.{eqb, ltb}
+use borrow.Author.Tests.{eqb-true, eqb-false, ltb-true, ltb-false, lt-ltb, le-ltb}
+use Rattle.lists.specs.Lists.{howMany}
+use Rattle.filling.specs.Packed.{isDone, Tally}
+use Rattle.filling.proofs.Totals.{also, also-same, also-other}
+
+-- ---- counts
+
+module _ (f : ℕ → Bool) where
+  many-le : (n : ℕ) → howMany f n ≤ n
+  unfolding howMany
+  many-le zero = omega arith
+  many-le (suc n) = omega (arith, many-le n, go (f n))
+    where
+      go : (b : Bool) → cond b 1 0 ≤ 1
+      go true = omega arith
+      go false = omega arith
+
+  many-all : (n : ℕ) → ((x : ℕ) → x < n → f x ≡ true) → howMany f n ≡ n
+  unfolding howMany
+  many-all zero h = refl
+  many-all (suc n) h =
+      rw (h n (omega arith)) (omega (arith, many-all n (λ x l. h x (omega arith))))
+
+  many-full : (n : ℕ) → howMany f n ≡ n → (x : ℕ) → x < n → f x ≡ true
+  unfolding howMany
+  many-full zero e x l = absurd (omega arith)
+  many-full (suc n) e x l = go (f n) refl (eqb x n) refl (λ k. many-full n k x)
+    where
+      less : howMany f n + 1 ≡ suc n → howMany f n ≡ n
+      less k = omega arith
+
+      short : howMany f n + 0 ≡ suc n → ⊥
+      short k = omega (arith, many-le n)
+
+      below : (x ≡ n → ⊥) → x < n
+      below k = omega arith
+
+      go : (b : Bool) → f n ≡ b → (t : Bool) → eqb x n ≡ t → (howMany f n ≡ n → x < n → f x ≡ true) → f x ≡ true
+      go true q true s ih = ap f (eqb-true x n s) ∙ q
+      go true q false s ih = ih (less (rw q at e)) (below (eqb-false x n s))
+      go false q t s ih = absurd (short (rw q at e))
+
+module _ (f g : ℕ → Bool) where
+  many-same : (n : ℕ) → ((x : ℕ) → x < n → g x ≡ f x) → howMany g n ≡ howMany f n
+  unfolding howMany
+  many-same zero h = refl
+  many-same (suc n) h =
+      ap₂ _+_ (many-same n (λ x l. h x (omega arith))) (ap (λ (b : Bool). cond b 1 0) (h n (omega arith)))
+
+  many-more : (n y : ℕ) → y < n → f y ≡ false → g y ≡ true → ((x : ℕ) → (x ≡ y → ⊥) → g x ≡ f x)
+      → howMany g n ≡ suc (howMany f n)
+  unfolding howMany
+  many-more zero y l a b h = absurd (omega arith)
+  many-more (suc n) y l a b h = go (eqb y n) refl (λ k. many-more n y k a b h)
+    where
+      apart : (x : ℕ) → x < n → x ≡ n → ⊥
+      apart x k e = omega arith
+
+      below : (y ≡ n → ⊥) → y < n
+      below k = omega arith
+
+      go : (t : Bool) → eqb y n ≡ t → (y < n → howMany g n ≡ suc (howMany f n))
+          → howMany g n + cond (g n) 1 0 ≡ suc (howMany f n + cond (f n) 1 0)
+      go true s ih =
+          let q = eqb-true y n s in
+          let u : g n ≡ true = ap g (sym q) ∙ b in
+          let v : f n ≡ false = ap f (sym q) ∙ a in
+          rw (u, v) (omega (arith, many-same n (λ x k. h x (λ e. apart x k (e ∙ q)))))
+      go false s ih =
+          let d = eqb-false y n s in
+          rw (h n (λ e. d (sym e))) (omega (arith, ih (below d)))
+
+-- ---- the tally
+
+-- one cell more is before suc n
+less-suc : (n c : ℕ) → (c ≡ n → ⊥) → ltb c (suc n) ≡ ltb c n
+less-suc n c f = go (ltb c n) refl
+  where
+    least : n ≤ c → suc n ≤ c
+    least h = omega arith
+
+    go : (b : Bool) → ltb c n ≡ b → ltb c (suc n) ≡ ltb c n
+    go true q = lt-ltb c (suc n) (omega (arith, ltb-true c n q)) ∙ sym q
+    go false q = le-ltb c (suc n) (least (ltb-false c n q)) ∙ sym q
+
+module _ {ground : ℕ → Bool} {cellCount : ℕ} where
+  -- nothing is done
+  pub tally-none : Tally ground cellCount (λ x. false) 0 0
+  unfolding howMany
+  tally-none = record { only-ground = λ x e. absurd (true≢false (sym e)); is-done = none cellCount }
+    where
+      none : (n : ℕ) → howMany (isDone ground (λ x. false) 0) n ≡ 0
+      none zero = refl
+      none (suc n) = rw (le-ltb n 0 (omega arith)) (omega (arith, none n))
+
+  module _ {passed : ℕ → Bool} {looked done : ℕ} (t : Tally ground cellCount passed looked done) where
+    pub tally-le : done ≤ cellCount
+    tally-le = omega (arith, t .is-done, many-le (isDone ground passed looked) cellCount)
+
+    -- a cell of ground is looked at, or a null cell
+    other : (x : ℕ) → (x ≡ looked → ⊥) → isDone ground passed (suc looked) x ≡ isDone ground passed looked x
+    other x n = ap (λ (b : Bool). passed x || (b && not (ground x))) (less-suc looked x n)
+
+    pub tally-ground : ground looked ≡ true → Tally ground cellCount passed (suc looked) done
+    tally-ground v = record {
+      only-ground = t .only-ground;
+      is-done = many-same (isDone ground passed looked) (isDone ground passed (suc looked)) cellCount
+          (λ x l. go x (eqb x looked) refl) ∙ t .is-done;
+    }
+      where
+        here : isDone ground passed (suc looked) looked ≡ isDone ground passed looked looked
+        here = rw (v, lt-ltb looked (suc looked) (omega arith), le-ltb looked looked (omega arith))
+
+        go : (x : ℕ) (b : Bool) → eqb x looked ≡ b
+            → isDone ground passed (suc looked) x ≡ isDone ground passed looked x
+        go x true q = rw (eqb-true x looked q) here
+        go x false q = other x (eqb-false x looked q)
+
+    pub tally-null : looked < cellCount → ground looked ≡ false → Tally ground cellCount passed (suc looked) (suc done)
+    tally-null h v = record {
+      only-ground = t .only-ground;
+      is-done = many-more (isDone ground passed looked) (isDone ground passed (suc looked)) cellCount looked h
+          (rw (fresh, le-ltb looked looked (omega arith))) (rw (v, lt-ltb looked (suc looked) (omega arith))
+          (or-true (passed looked))) other ∙ ap suc (t .is-done);
+    }
+      where
+        fresh : passed looked ≡ false
+        fresh = go (passed looked) refl
+          where
+            go : (b : Bool) → passed looked ≡ b → passed looked ≡ false
+            go true q = absurd (true≢false (sym (t .only-ground looked q) ∙ v))
+            go false q = q
+
+    -- a cell is passed down
+    pub tally-passed : {y : ℕ} → y < cellCount → ground y ≡ true → passed y ≡ false
+        → Tally ground cellCount (also passed y) looked (suc done)
+    tally-passed {y} h v fresh = record {
+      only-ground = λ x e. go x e (eqb x y) refl;
+      is-done = many-more (isDone ground passed looked) (isDone ground (also passed y) looked) cellCount y h
+          (rw (fresh, v) (and-false (ltb y looked)))
+          (ap (λ (b : Bool). b || (ltb y looked && not (ground y))) (also-same passed y y refl))
+          (λ x n. ap (λ (b : Bool). b || (ltb x looked && not (ground x))) (also-other passed y x n))
+          ∙ ap suc (t .is-done);
+    }
+      where
+        and-false : (b : Bool) → (b && false) ≡ false
+        and-false true = refl
+        and-false false = refl
+
+        go : (x : ℕ) → also passed y x ≡ true → (b : Bool) → eqb x y ≡ b → ground x ≡ true
+        go x e true q = ap ground (eqb-true x y q) ∙ v
+        go x e false q = t .only-ground x (sym (also-other passed y x (eqb-false x y q)) ∙ e)
+
+  -- when every cell is looked at: all cells are done exactly if every cell of ground is passed down
+  module _ {passed : ℕ → Bool} {done : ℕ} (t : Tally ground cellCount passed cellCount done) where
+    pub tally-all : ((x : ℕ) → ground x ≡ true → passed x ≡ true) → done ≡ cellCount
+    tally-all h = sym (t .is-done) ∙ many-all (isDone ground passed cellCount) cellCount (λ x l. go x l (ground x) refl)
+      where
+        go : (x : ℕ) → x < cellCount → (b : Bool) → ground x ≡ b → isDone ground passed cellCount x ≡ true
+        go x l true v = rw (h x v)
+        go x l false v = rw (v, lt-ltb x cellCount l) (or-true (passed x))
+
+    pub tally-full : done ≡ cellCount → (x : ℕ) → x < cellCount → ground x ≡ true → passed x ≡ true
+    tally-full e x l v =
+        let d = many-full (isDone ground passed cellCount) cellCount (t .is-done ∙ e) x l in
+        sym (or-false (passed x)) ∙ sym (ap (λ (b : Bool). passed x || b) (and-false (ltb x cellCount))) ∙ rw v at d
+      where
+        and-false : (b : Bool) → (b && false) ≡ false
+        and-false true = refl
+        and-false false = refl
