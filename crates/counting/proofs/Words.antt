@@ -69,6 +69,16 @@ module _ {rows cols row col k : ℕ} {codes : List ℕ} {s : Spot} (p : FlowsFro
 
 -- ---- how many do
 
+-- no more than are asked
+pub many-le : (f : ℕ → Bool) (n : ℕ) → howMany f n ≤ n
+unfolding howMany
+many-le f zero = omega arith
+many-le f (suc n) = omega (arith, many-le f n, go (f n))
+  where
+    go : (b : Bool) → cond b 1 0 ≤ 1
+    go true = omega arith
+    go false = omega arith
+
 module _ (g : Grid) (x : ℕ) where
   one-more : (d : Dir) (o : Option ℕ) (ks : List (Link Dir))
       → length (inflow g d o ks) ≡ cond (flowsIn g d o) 1 0 + length ks
@@ -98,16 +108,6 @@ module _ (g : Grid) (x : ℕ) where
     next-more NE [],
   )
 
-  -- no more than were looked at
-  many-few : (k : ℕ) → howMany (flowsAt g x) k ≤ k
-  unfolding howMany
-  many-few zero = omega arith
-  many-few (suc k) = omega (arith, many-few k, go (flowsAt g x k))
-    where
-      go : (b : Bool) → cond b 1 0 ≤ 1
-      go true = omega arith
-      go false = omega arith
-
   -- THE WORD
   pub ground-word : ground g x ≡ true → countedWord g x ≡ suc (2 ^ 25 * length (inflows g x))
   unfolding countedWord
@@ -128,7 +128,7 @@ module _ (g : Grid) (x : ℕ) where
 
 module _ {g : Grid} {x k w : ℕ} (s : SoFar g x k w) where
   pub fits : w + 2 ^ 25 < 2 ^ 32
-  fits = omega (arith, s .few, s .is-word, many-few g x k)
+  fits = omega (arith, s .few, s .is-word, many-le (flowsAt g x) k)
 
   -- one neighbour more is looked at, and flows in or not
   module _ (h : k < 8) {flows : Bool} (e : flows ≡ flowsAt g x k) where

@@ -7,21 +7,13 @@ use native.Mathlib.Omega.{arith}
 use lib.Dec.{eqb, ltb}
 use borrow.Author.Tests.{eqb-true, eqb-false, ltb-true, ltb-false, lt-ltb, le-ltb}
 use Rattle.lists.specs.Lists.{howMany}
+use Rattle.counting.proofs.Words.{many-le}
 use Rattle.filling.specs.Packed.{isDone, Tally}
 use Rattle.filling.proofs.Totals.{also, also-same, also-other}
 
 -- ---- counts
 
 module _ (f : ℕ → Bool) where
-  many-le : (n : ℕ) → howMany f n ≤ n
-  unfolding howMany
-  many-le zero = omega arith
-  many-le (suc n) = omega (arith, many-le n, go (f n))
-    where
-      go : (b : Bool) → cond b 1 0 ≤ 1
-      go true = omega arith
-      go false = omega arith
-
   many-all : (n : ℕ) → ((x : ℕ) → x < n → f x ≡ true) → howMany f n ≡ n
   unfolding howMany
   many-all zero h = refl
@@ -37,7 +29,7 @@ module _ (f : ℕ → Bool) where
       less k = omega arith
 
       short : howMany f n + 0 ≡ suc n → ⊥
-      short k = omega (arith, many-le n)
+      short k = omega (arith, many-le f n)
 
       below : (x ≡ n → ⊥) → x < n
       below k = omega arith
@@ -89,6 +81,10 @@ less-suc n c f = go (ltb c n) refl
     go : (b : Bool) → ltb c n ≡ b → ltb c (suc n) ≡ ltb c n
     go true q = lt-ltb c (suc n) (omega (arith, ltb-true c n q)) ∙ sym q
     go false q = le-ltb c (suc n) (least (ltb-false c n q)) ∙ sym q
+
+and-false : (b : Bool) → (b && false) ≡ false
+and-false true = refl
+and-false false = refl
 
 module _ {ground : ℕ → Bool} {cellCount : ℕ} where
   -- nothing is done
@@ -150,10 +146,6 @@ module _ {ground : ℕ → Bool} {cellCount : ℕ} where
           ∙ ap suc (t .is-done);
     }
       where
-        and-false : (b : Bool) → (b && false) ≡ false
-        and-false true = refl
-        and-false false = refl
-
         go : (x : ℕ) → also passed y x ≡ true → (b : Bool) → eqb x y ≡ b → ground x ≡ true
         go x e true q = ap ground (eqb-true x y q) ∙ v
         go x e false q = t .only-ground x (sym (also-other passed y x (eqb-false x y q)) ∙ e)
@@ -171,7 +163,3 @@ module _ {ground : ℕ → Bool} {cellCount : ℕ} where
     tally-full e x l v =
         let d = many-full (isDone ground passed cellCount) cellCount (t .is-done ∙ e) x l in
         sym (or-false (passed x)) ∙ sym (ap (λ (b : Bool). passed x || b) (and-false (ltb x cellCount))) ∙ rw v at d
-      where
-        and-false : (b : Bool) → (b && false) ≡ false
-        and-false true = refl
-        and-false false = refl

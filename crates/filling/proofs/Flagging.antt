@@ -77,7 +77,8 @@ module _ {S : Type 0} {next : ℕ → Option (Link S)} {ups : ℕ → List (Link
             → ((x : ℕ) → (x ≡ h .cell → ⊥) → word₂ x ≡ word₁ x) → Flagging ups ground cellCount word₂ (also out o)
         flagged-below {word₂} at rest = record {
           is-word = λ x v. go x v (eqb x (h .cell)) refl;
-          null-word = λ x b u. rest x (λ q. true≢false (sym (𝓝 .lands o h e) ∙ ap ground (sym q) ∙ u)) ∙ null-kept x b u;
+          null-word = λ x b u. rest x (λ q. true≢false (sym (𝓝 .lands o h e) ∙ ap ground (sym q) ∙ u)) ∙ null-kept x b
+              u;
         }
           where
             Goal : ℕ → Type 0

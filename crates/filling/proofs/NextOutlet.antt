@@ -90,7 +90,8 @@ module _ {rows cols : ℕ} {codes outlets l : List ℕ} {j o : ℕ} (n : Next ro
     pub at-end : next (gridOf rows cols codes) o ≡ none
         → Flagged (gridOf rows cols codes) outlets (set l o (getD l o 0 + 2 ^ 30)) (j + 1)
     unfolding Flagged
-    at-end e = one-more with-flag (flagged-end (network land) (n .flagged) fresh o-ground (getD-set-same l o (getD l o 0 + 2 ^ 30) 0 o-room)
+    at-end e = one-more with-flag (flagged-end (network land) (n .flagged) fresh o-ground
+        (getD-set-same l o (getD l o 0 + 2 ^ 30) 0 o-room)
         (λ x d. getD-set-other l o x (getD l o 0 + 2 ^ 30) 0 d) e)
 
     module _ {z : ℕ} (to : Flows (gridOf rows cols codes) o z) where
@@ -107,7 +108,8 @@ module _ {rows cols : ℕ} {codes outlets l : List ℕ} {j o : ℕ} (n : Next ro
 
       pub z-waits : 2 ^ 25 ≤ getD (set l o (getD l o 0 + 2 ^ 30)) z 0
       unfolding Flagged
-      z-waits = flagged-room (network land) (n .flagged) fresh o-ground (getD-set-same l o (getD l o 0 + 2 ^ 30) 0 o-room)
+      z-waits = flagged-room (network land) (n .flagged) fresh o-ground
+          (getD-set-same l o (getD l o 0 + 2 ^ 30) 0 o-room)
           (λ x d. getD-set-other l o x (getD l o 0 + 2 ^ 30) 0 d) (to .1)
 
       abbrev less : ℕ

@@ -144,7 +144,8 @@ module _ {S : Type 0} {next : ℕ → Option (Link S)} {ups : ℕ → List (Link
           → Packed ups ground cellCount flag word (suc i) noOutlet done
       look-ground v f = look-on (λ u. f) (tally-ground (p .tally) v)
 
-      pub look-null : i < cellCount → ground i ≡ false → Packed ups ground cellCount flag word (suc i) noOutlet (suc done)
+      pub look-null : i < cellCount → ground i ≡ false → Packed ups ground cellCount flag word (suc i) noOutlet
+          (suc done)
       look-null h v = look-on (λ u e. true≢false (sym u ∙ v)) (tally-null (p .tally) h v)
 
       -- a cell is looked at, and is a headwater

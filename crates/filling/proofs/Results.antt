@@ -106,7 +106,8 @@ module _ {rows cols : ℕ} {codes outlets l : List ℕ} (f : Fillable rows cols 
         go : (b : Bool) → cutFree land outlets ≡ b → cutFree land outlets ≡ false
         go true e = absurd (d (tally-all (p .tally) (λ x v. settled (cut-network land outlets) p x v
             (ends-settled (cut-network land outlets) p
-            (λ y u. all-below (ends (nextCut land outlets) (rows * cols)) (rows * cols) e y (ground-within land y u)) x v))))
+            (λ y u. all-below (ends (nextCut land outlets) (rows * cols)) (rows * cols) e y (ground-within land y u)) x
+            v))))
         go false e = e
 
   pub cleared-filled : {old m : List ℕ} → Kept (rows * cols) old l → Cleared (rows * cols) (rows * cols) l m

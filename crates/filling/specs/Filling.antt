@@ -63,7 +63,8 @@ module _ (g : Grid) (outlets : List ℕ) where
 
   -- the cells before n are looked at, so many are done, and nothing is on the way down
   unfoldable pub Looked : List ℕ → ℕ → ℕ → Type 0
-  Looked words n done = Packed upsCut (ground g) (cellCount g) (flagOf outlets) (λ x. getD words x 0) n (λ x. false) done
+  Looked words n done = Packed upsCut (ground g) (cellCount g) (flagOf outlets) (λ x. getD words x 0) n
+      (λ x. false) done
 
   -- they are, and the way down is at a cell
   unfoldable pub Down : List ℕ → ℕ → ℕ → ℕ → Type 0

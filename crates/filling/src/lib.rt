@@ -1,9 +1,9 @@
 // Accumulation and subaccumulation by counted inflows, in no memory but the lent grid.
 //
 // While at work a place holds flag * 2^30 + waiting * 2^25 + partial. The flag is 1 at an outlet, `waiting` is how many
-// inflows are not yet passed down, and `partial` is 1 and the sum of those that are. A cell is done that is passed down,
-// or null and looked at. Some parameters serve the contracts alone: `outlets` in all that look and go down, since the
-// flags tell the outlets, and `looked` and `done` of a step.
+// inflows are not yet passed down, and `partial` is 1 and the sum of those that are. A cell is done that is passed
+// down, or null and looked at. Some parameters serve the contracts alone: `outlets` in all that look and go down, since
+// the flags tell the outlets, and `looked` and `done` of a step.
 use counting::INFLOW;
 use counting::count_all;
 use downstream::Downstream;

@@ -34,8 +34,11 @@ loop-less c = search needs
 
 loop-again : tie.Need-loop-again Inv-loop μ-loop
 loop-again c =
-    let v = c .before .before .before .before .before .loop .inv in
-    (omega (arith, v .0, c .before .before .before .before .loop-test .taken), rows-step (v .1) (c .before .before .count-row .ensures))
+    let v = c .before .before .before .before .before .loop .inv in (
+      omega (arith, v .0, c .before .before .before .before .loop-test .taken),
+      rows-step (v .1)
+          (c .before .before .count-row .ensures),
+    )
 
 same-length : tie.Need-same-length Inv-loop μ-loop
 same-length c = c .before .loop .inv .1 .counting .same-length

@@ -1,4 +1,5 @@
--- `counting::count_inside` meets its contract, as `count_part` does. The invariant: the part's cells before the column are counted.
+-- `counting::count_inside` meets its contract, as `count_part` does. The invariant: the part's cells before the column
+-- are counted.
 -- Assumes nothing.
 use Prim.Native.Nat.{_+_, _-_, _*_, _<_, _≤_}
 use native.Mathlib.Omega.{arith}
@@ -40,11 +41,13 @@ inner-word-at-requires c κs =
 -- the cell's number, and that there is room for it
 here : (c : tie.After-inner-word-at Inv-loop μ-loop) → let a = c .before .before .before .before .before .args in
     (a .row * a .cols + c .before .before .loop .col < a .rows * a .cols) × (a .rows * a .cols ≤ 4096 * 4096)
-here c = let s = c .before .before .before .before .before in in-grid (s .pre .0) (omega (arith, s .pre .2)) (omega (arith, c .before .loop-test .taken))
+here c = let s = c .before .before .before .before .before in in-grid (s .pre .0) (omega (arith, s .pre .2))
+    (omega (arith, c .before .loop-test .taken))
 
 room : (c : tie.After-inner-word-at Inv-loop μ-loop) → let a = c .before .before .before .before .before .args in
     a .row * a .cols + c .before .before .loop .col < length (c .before .before .loop .words)
-room c = let s = c .before .before .before .before .before in in-words (s .pre .0) (omega (arith, s .pre .2)) (omega (arith, c .before .loop-test .taken)) (c .before .before .loop .inv .1 .counting)
+room c = let s = c .before .before .before .before .before in in-words (s .pre .0) (omega (arith, s .pre .2))
+    (omega (arith, c .before .loop-test .taken)) (c .before .before .loop .inv .1 .counting)
 
 mul-words : tie.Need-mul-words Inv-loop μ-loop
 mul-words c = omega (arith, here c)

@@ -28,11 +28,13 @@ word-at-requires c κs =
 -- the cell's number, and that there is room for it
 here : (c : tie.After-word-at Inv-loop μ-loop) → let a = c .before .before .before .before .before .args in
     (a .row * a .cols + c .before .before .loop .col < a .rows * a .cols) × (a .rows * a .cols ≤ 4096 * 4096)
-here c = let s = c .before .before .before .before .before in in-grid (s .pre .0) (s .pre .1) (omega (arith, c .before .loop-test .taken, s .pre .3))
+here c = let s = c .before .before .before .before .before in in-grid (s .pre .0) (s .pre .1)
+    (omega (arith, c .before .loop-test .taken, s .pre .3))
 
 room : (c : tie.After-word-at Inv-loop μ-loop) → let a = c .before .before .before .before .before .args in
     a .row * a .cols + c .before .before .loop .col < length (c .before .before .loop .words)
-room c = let s = c .before .before .before .before .before in in-words (s .pre .0) (s .pre .1) (omega (arith, c .before .loop-test .taken, s .pre .3)) (c .before .before .loop .inv .1 .counting)
+room c = let s = c .before .before .before .before .before in in-words (s .pre .0) (s .pre .1)
+    (omega (arith, c .before .loop-test .taken, s .pre .3)) (c .before .before .loop .inv .1 .counting)
 
 mul-words : tie.Need-mul-words Inv-loop μ-loop
 mul-words c = omega (arith, here c)

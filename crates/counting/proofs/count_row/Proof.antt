@@ -43,7 +43,8 @@ same-length-3 c = search needs
 
 returns-3 : tie.Need-returns-3
 returns-3 c =
-    row-then (row-then (c .before .before .before .before .before .before .before .before .before .before .count-part3 .ensures) (c .before .before .before .before .before .before .count-inside .ensures))
+    row-then (row-then (c .before .before .before .before .before .before .before .before .before .before .count-part3
+    .ensures) (c .before .before .before .before .before .before .count-inside .ensures))
     (c .before .before .count-part4 .ensures)
 
 pub count-row-spec : {M : Type 1} → statement M

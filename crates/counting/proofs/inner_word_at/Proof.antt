@@ -1,4 +1,5 @@
--- `counting::inner_word_at` meets its contract, as `word_at` does. The invariant: the inflows among the first k neighbours are counted.
+-- `counting::inner_word_at` meets its contract, as `word_at` does. The invariant: the inflows among the first k
+-- neighbours are counted.
 -- Assumes nothing.
 use mathlib.Core.Path.{sym}
 use Prim.Native.Nat.{_+_, _-_, _*_}
@@ -33,7 +34,8 @@ loop-less c = search needs
 
 loop-again : tie.Need-loop-again Inv-loop μ-loop
 loop-again c =
-    more (c .before .before .before .loop .inv) (c .before .before .loop-test .taken) (c .before .inner-neighbour .ensures .is-inflow)
+    more (c .before .before .before .loop .inv) (c .before .before .loop-test .taken)
+    (c .before .inner-neighbour .ensures .is-inflow)
     (c .if1 .taken)
 
 loop-less-2 : tie.Need-loop-less-2 Inv-loop μ-loop
@@ -41,7 +43,8 @@ loop-less-2 c = search needs
 
 loop-again-2 : tie.Need-loop-again-2 Inv-loop μ-loop
 loop-again-2 c =
-    no-more (c .before .before .before .loop .inv) (c .before .before .loop-test .taken) (c .before .inner-neighbour .ensures .is-inflow)
+    no-more (c .before .before .before .loop .inv) (c .before .before .loop-test .taken)
+    (c .before .inner-neighbour .ensures .is-inflow)
     (c .if1 .left)
 
 mul-here : tie.Need-mul-here Inv-loop μ-loop

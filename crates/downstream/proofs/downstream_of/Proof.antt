@@ -47,11 +47,17 @@ abbrev start : tie.After-place-of → tie.Start
 start c = c .before .before .before .before .before .before .before .before .before .before .before .before
 
 place-below : (c : tie.After-place-of) → c .place-of .result < 8
-place-below c = omega (arith, c .place-of .ensures, place-in (dirOf (getD (start c .args .codes .now) (start c .args .at) 0)))
+place-below c = omega (
+  arith,
+  c .place-of .ensures,
+  place-in
+      (dirOf (getD (start c .args .codes .now) (start c .args .at) 0)),
+)
 
 number : (c : tie.After-place-of) → let a = start c .args in
     (a .at + getD (a .offsets .now) (c .place-of .result) 0
-    ≡ c .before .before .before .r .given .0 .0 * a .cols + c .before .before .before .r .given .0 .1 .0 + (a .cols + 1))
+    ≡ c .before .before .before .r .given .0 .0 * a .cols + c .before .before .before .r .given .0 .1 .0 +
+    (a .cols + 1))
     × (a .at + getD (a .offsets .now) (c .place-of .result) 0 < 4096 * 4096 + (2 * 4096 + 3))
 number c =
     let l = c .before .before .before .before .before .before .before .before .before .lead-of .ensures in
@@ -80,14 +86,18 @@ sub-to c = omega (arith, number (c .before))
 shared-slice-read-if1 : tie.Need-shared-slice-read-if1
 shared-slice-read-if1 c =
     let p = c .before .before in
-    to-inside (start p .pre) (p .before .before .before .before .before .before .before .before .before .lead-of .ensures) (p .before .before .before .before .before .before .before .m .given .1)
-    (p .before .before .before .before .before .spot-at .ensures) (p .before .before .before .r .given .1) (p .place-of .ensures)
+    to-inside (start p .pre) (p .before .before .before .before .before .before .before .before .before .lead-of
+    .ensures) (p .before .before .before .before .before .before .before .m .given .1)
+    (p .before .before .before .before .before .spot-at .ensures) (p .before .before .before .r .given .1)
+    (p .place-of .ensures)
 
 returns : tie.Need-returns
 returns c =
     let p = c .before .before .before in
-    ends-null (start p .pre) (p .before .before .before .before .before .before .before .before .before .lead-of .ensures) (p .before .before .before .before .before .before .before .m .given .1)
-    (p .before .before .before .before .before .spot-at .ensures) (p .before .before .before .r .given .1) (p .place-of .ensures) (c .if1 .taken)
+    ends-null (start p .pre) (p .before .before .before .before .before .before .before .before .before .lead-of
+    .ensures) (p .before .before .before .before .before .before .before .m .given .1)
+    (p .before .before .before .before .before .spot-at .ensures) (p .before .before .before .r .given .1)
+    (p .place-of .ensures) (c .if1 .taken)
 
 returns-2 : tie.Need-returns-2
 returns-2 c =
@@ -96,14 +106,18 @@ returns-2 c =
 
 returns-3 : tie.Need-returns-3
 returns-3 c =
-    ends-off (c .before .before .before .before .before .before .before .before .before .pre) (c .before .before .before .before .before .before .lead-of .ensures) (c .before .before .before .before .m .given .1)
+    ends-off (c .before .before .before .before .before .before .before .before .before .pre)
+    (c .before .before .before .before .before .before .lead-of .ensures)
+    (c .before .before .before .before .m .given .1)
     (c .before .before .spot-at .ensures) (c .enum-told2 .given .1)
 
 returns-4 : tie.Need-returns-4
 returns-4 c =
     let p = c .before .before .before in
-    flows-there (start p .pre) (p .before .before .before .before .before .before .before .before .before .lead-of .ensures) (p .before .before .before .before .before .before .before .m .given .1)
-    (p .before .before .before .before .before .spot-at .ensures) (p .before .before .before .r .given .1) (p .place-of .ensures) (c .if1 .left)
+    flows-there (start p .pre) (p .before .before .before .before .before .before .before .before .before .lead-of
+    .ensures) (p .before .before .before .before .before .before .before .m .given .1)
+    (p .before .before .before .before .before .spot-at .ensures) (p .before .before .before .r .given .1)
+    (p .place-of .ensures) (c .if1 .left)
 
 pub downstream-of-spec : {M : Type 1} → statement M
 downstream-of-spec =

@@ -72,7 +72,8 @@ returns c =
     let l = c .before .before .before .before .before .before .before .before in
     let e = c .before .before .before .before .before .index-of .ensures .0 in
     record {
-      answers = sym (waits-ring (looked l) _ (l .look-at-all .ensures .0) (λ d. c .before .before .before .before .if1 .taken (e ∙ d)));
+      answers = sym (waits-ring (looked l) _ (l .look-at-all .ensures .0)
+          (λ d. c .before .before .before .before .if1 .taken (e ∙ d)));
       leaves = cleared-filled (looked l) (kept-looked l) (c .before .before .clear .ensures);
     }
 
@@ -85,7 +86,8 @@ same-length-2 c = search needs
 returns-2 : tie.Need-returns-2
 returns-2 c =
     let l = c .before .before .before .before .before .before .before .before in
-    let d = sym (c .before .before .before .before .before .index-of .ensures .0) ∙ c .before .before .before .before .if1 .left in
+    let d = sym (c .before .before .before .before .before .index-of .ensures .0) ∙
+    c .before .before .before .before .if1 .left in
     let p = l .look-at-all .ensures .0 in
     record {
       answers = sym (settled-free (looked l) _ p d);

@@ -25,8 +25,10 @@ loop-holds c = (omega arith, c .before .before .before .pre .1, kept-all)
 
 flag-at-requires : tie.Need-flag-at-requires Inv-loop μ-loop
 flag-at-requires c κs =
-    let v = c .before .before .loop .inv in
-    ((fillable-kept (v .2) (c .before .before .before .before .before .before .pre .0), c .before .loop-test .taken), v .1)
+    let v = c .before .before .loop .inv in (
+      (fillable-kept (v .2) (c .before .before .before .before .before .before .pre .0), c .before .loop-test .taken),
+      v .1,
+    )
 
 add-j : tie.Need-add-j Inv-loop μ-loop
 add-j c = search needs

@@ -73,7 +73,8 @@ same-length c = search needs
 returns-2 : tie.Need-returns-2
 returns-2 c =
     let o = outlet (c .before .before .before .before .before .before .before) in (
-      at-end o (c .before .before .before .before .before .if1 .left) (c .before .before .downstream-of .ensures .ends-here (c .enum-told .given .1)),
+      at-end o (c .before .before .before .before .before .if1 .left)
+          (c .before .before .downstream-of .ensures .ends-here (c .enum-told .given .1)),
       kept-set _ _ (o-inside o),
     )
 
@@ -81,24 +82,39 @@ enum-known-to : tie.Need-enum-known-to
 enum-known-to c = search needs
 
 -- the cell that it flows to, seen from where that is known
-to : (c : tie.After-known-told) → let a = c .before .before .before .before .before .before .before .before .before .before .before .before .before .args in
-    Flows (gridOf (a .rows) (a .cols) (a .codes .now)) (c .before .before .before .before .before .before .before .before .index-of .result) (c .before .to .given .0 .1 .1 .0)
+to : (c : tie.After-known-told) → let a =
+    c .before .before .before .before .before .before .before .before .before .before .before .before .before .args in
+    Flows (gridOf (a .rows) (a .cols) (a .codes .now))
+    (c .before .before .before .before .before .before .before .before .index-of .result)
+    (c .before .to .given .0 .1 .1 .0)
 to c = c .before .before .before .downstream-of .ensures .goes-on _ _ _ (c .before .to .given .1)
 
 mul-below : tie.Need-mul-below
-mul-below c = omega (arith, z-inside (outlet (c .before .before .before .before .before .before .before .before)) (c .before .before .before .before .before .before .if1 .left) (to c))
+mul-below c = omega (
+  arith,
+  z-inside (outlet (c .before .before .before .before .before .before .before .before))
+      (c .before .before .before .before .before .before .if1 .left) (to c),
+)
 
 slice-read-below : tie.Need-slice-read-below
-slice-read-below c = z-room (outlet (c .before .before .before .before .before .before .before .before .before)) (c .before .before .before .before .before .before .before .if1 .left) (to (c .before))
+slice-read-below c = z-room (outlet (c .before .before .before .before .before .before .before .before .before))
+    (c .before .before .before .before .before .before .before .if1 .left) (to (c .before))
 
 sub-words : tie.Need-sub-words
-sub-words c = z-waits (outlet (c .before .before .before .before .before .before .before .before .before)) (c .before .before .before .before .before .before .before .if1 .left) (to (c .before))
+sub-words c = z-waits (outlet (c .before .before .before .before .before .before .before .before .before))
+    (c .before .before .before .before .before .before .before .if1 .left) (to (c .before))
 
 mul-words-2 : tie.Need-mul-words-2
-mul-words-2 c = omega (arith, z-inside (outlet (c .before .before .before .before .before .before .before .before .before)) (c .before .before .before .before .before .before .before .if1 .left) (to (c .before)))
+mul-words-2 c = omega (
+  arith,
+  z-inside (outlet
+      (c .before .before .before .before .before .before .before .before .before))
+      (c .before .before .before .before .before .before .before .if1 .left) (to (c .before)),
+)
 
 slice-write-words-2 : tie.Need-slice-write-words-2
-slice-write-words-2 c = z-room (outlet (c .before .before .before .before .before .before .before .before .before)) (c .before .before .before .before .before .before .before .if1 .left) (to (c .before))
+slice-write-words-2 c = z-room (outlet (c .before .before .before .before .before .before .before .before .before))
+    (c .before .before .before .before .before .before .before .if1 .left) (to (c .before))
 
 same-length-2 : tie.Need-same-length-2
 same-length-2 c = search needs

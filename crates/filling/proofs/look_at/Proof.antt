@@ -12,7 +12,8 @@ mul-word : tie.Need-mul-word
 mul-word c = omega (arith, at-inside (c .before .before .before .pre .0))
 
 slice-read-word : tie.Need-slice-read-word
-slice-read-word c = let s = c .before .before .before .before in omega (arith, at-inside (s .pre .0), s .pre .0 .fillable .has-words)
+slice-read-word c = let s = c .before .before .before .before in omega
+    (arith, at-inside (s .pre .0), s .pre .0 .fillable .has-words)
 
 add-result : tie.Need-add-result
 add-result c =

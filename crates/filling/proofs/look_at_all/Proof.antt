@@ -47,7 +47,11 @@ next-requires : tie.Need-next-requires Inv-loop μ-loop
 next-requires c κs =
     let s = c .before .before .before .before .before .before .before .before .before .before .before in
     let v = c .before .before .before .before .before .before .loop .inv in (
-      omega (arith, scan-row v (c .before .before .before .before .before .loop-test .taken), s .pre .0 .grid .sides .rows-small),
+      omega (
+        arith,
+        scan-row v (c .before .before .before .before .before .loop-test .taken),
+        s .pre .0 .grid .sides .rows-small,
+      ),
       v .col-in,
       s .pre .0 .grid .sides .cols-small,
     )
@@ -61,7 +65,8 @@ loop-less c = omega (arith, c .before .before .before .before .before .before .l
 loop-again : tie.Need-loop-again Inv-loop μ-loop
 loop-again c =
     let t = c .before .before .before .look-at .ensures in
-    scan-on (c .before .before .before .before .before .before .before .loop .inv) (c .before .before .before .before .before .before .loop-test .taken) (c .next .ensures) (t .0) (t .1)
+    scan-on (c .before .before .before .before .before .before .before .loop .inv)
+    (c .before .before .before .before .before .before .loop-test .taken) (c .next .ensures) (t .0) (t .1)
 
 same-length : tie.Need-same-length Inv-loop μ-loop
 same-length c = c .before .loop .inv .kept .same-length

@@ -31,7 +31,8 @@ mul-word : tie.Need-mul-word
 mul-word c = omega (arith, at-inside (c .before .before .before .pre .0))
 
 slice-read-word : tie.Need-slice-read-word
-slice-read-word c = let s = c .before .before .before .before in omega (arith, at-inside (s .pre .0), s .pre .0 .fillable .has-words)
+slice-read-word c = let s = c .before .before .before .before in omega
+    (arith, at-inside (s .pre .0), s .pre .0 .fillable .has-words)
 
 returns : tie.Need-returns
 returns c = let s = c .before .before .before .before .before in
@@ -53,10 +54,18 @@ slice-read-below : tie.Need-slice-read-below
 slice-read-below c = omega (arith, to-inside (c .before), start (c .before) .pre .0 .fillable .has-words)
 
 add-sum : tie.Need-add-sum
-add-sum c = let s = start (c .before) in omega (arith, down-fits (s .pre .0 .fillable) _ _ _ (s .pre .1) (c .before .before .before .before .before .if1 .left) (to (c .before)))
+add-sum c = let s = start (c .before) in omega (
+  arith,
+  down-fits (s .pre .0 .fillable) _ _ _ (s .pre .1) (c .before .before .before .before .before .if1 .left)
+      (to (c .before)),
+)
 
 sub-sum : tie.Need-sub-sum
-sub-sum c = let s = start (c .before) in omega (arith, down-fits (s .pre .0 .fillable) _ _ _ (s .pre .1) (c .before .before .before .before .before .if1 .left) (to (c .before)))
+sub-sum c = let s = start (c .before) in omega (
+  arith,
+  down-fits (s .pre .0 .fillable) _ _ _ (s .pre .1) (c .before .before .before .before .before .if1 .left)
+      (to (c .before)),
+)
 
 mul-words : tie.Need-mul-words
 mul-words c = omega (arith, to-inside (c .before), at-inside (start (c .before) .pre .0))
@@ -70,7 +79,8 @@ same-length c = search needs
 returns-2 : tie.Need-returns-2
 returns-2 c = let s = start (c .before .before) in
     passed-end (kept-set _ _ (to-inside (c .before .before)))
-    (down-stop (s .pre .0 .fillable) _ _ _ (s .pre .1) (c .before .before .before .before .before .before .if1 .left) (to (c .before .before)) (c .if2 .taken))
+    (down-stop (s .pre .0 .fillable) _ _ _ (s .pre .1) (c .before .before .before .before .before .before .if1 .left)
+    (to (c .before .before)) (c .if2 .taken))
 
 returns-3 : tie.Need-returns-3
 returns-3 c = let s = c .before .before .before .before .before .before .before .before in
@@ -87,8 +97,10 @@ returns-4 c =
     let t = c .before .before .before .before .before .downstream-of .ensures in
     let e = c .before .before .before .r .given .1 in
     passed-on (kept-set _ _ (to-inside (c .before .before))) (t .row-in _ _ _ e) (t .col-in _ _ _ e) (t .is-at _ _ _ e)
-    (down-on (s .pre .0 .fillable) _ _ _ (s .pre .1) (c .before .before .before .before .before .before .if1 .left) (to (c .before .before)) (c .if2 .left))
-    (down-less (s .pre .0 .fillable) _ _ _ (s .pre .1) (c .before .before .before .before .before .before .if1 .left) (to (c .before .before)))
+    (down-on (s .pre .0 .fillable) _ _ _ (s .pre .1) (c .before .before .before .before .before .before .if1 .left)
+    (to (c .before .before)) (c .if2 .left))
+    (down-less (s .pre .0 .fillable) _ _ _ (s .pre .1) (c .before .before .before .before .before .before .if1 .left)
+    (to (c .before .before)))
 
 pub pass-down-spec : {M : Type 1} → statement M
 pass-down-spec =

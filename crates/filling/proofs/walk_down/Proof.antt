@@ -63,7 +63,9 @@ add-n c =
     let g = c .before .before .before .before .before .before .before .loop .inv in
     omega (
       arith,
-      done-small (fillable-kept (g .kept) (c .before .before .before .before .before .before .before .before .before .before .before .pre .0 .fillable)) _ _ _
+      done-small (fillable-kept (g .kept)
+          (c .before .before .before .before .before .before .before .before .before .before .before .pre .0 .fillable))
+          _ _ _
           (g .is-down _ _ _ (c .before .before .before .before .before .s .given .1)),
     )
 
@@ -72,7 +74,8 @@ loop-less c = ahead-less (c .before .before .before .before .before .s .given .1
     (c .before .before .pass-down .ensures .less)
 
 loop-again : tie.Need-loop-again Inv-loop μ-loop
-loop-again c = going-on (c .before .before .before .before .before .before .before .loop .inv) (c .before .before .pass-down .ensures)
+loop-again c = going-on (c .before .before .before .before .before .before .before .loop .inv)
+    (c .before .before .pass-down .ensures)
 
 pub walk-down-spec : {M : Type 1} → statement M
 walk-down-spec =

@@ -11,11 +11,20 @@ inner-neighbour-requires : tie.Need-inner-neighbour-requires
 inner-neighbour-requires c κs = let p = c .before .before .pre in record { on = p .has .on; inner = p .inner }
 
 mul-value : tie.Need-mul-value
-mul-value c = omega (arith, c .inner-neighbour .ensures .inside, size (c .before .before .before .pre .has .on .grid .sides))
+mul-value c = omega (
+  arith,
+  c .inner-neighbour .ensures .inside,
+  size
+      (c .before .before .before .pre .has .on .grid .sides),
+)
 
 shared-slice-read-value : tie.Need-shared-slice-read-value
 shared-slice-read-value c =
-    omega (arith, c .before .inner-neighbour .ensures .inside, c .before .before .before .before .pre .has .has-accumulation)
+    omega (
+      arith,
+      c .before .inner-neighbour .ensures .inside,
+      c .before .before .before .before .pre .has .has-accumulation,
+    )
 
 returns : tie.Need-returns
 returns c =
