@@ -7,31 +7,18 @@ use mathlib.Core.Option.{Option, none, some}
 use Prim.Native.Nat.{ℕ, zero, suc, _+_, _-_, _*_, _≤_, _<_, _^_}
 use native.Mathlib.Numerals.{add-one}
 use native.Mathlib.Omega.{arith}
-use lib.ListN.{length, getD}
-use lib.Dec.{eqb}
-use borrow.Author.Tests.{eq-eqb, ne-eqb}
+use lib.ListN.{length}
 use Rattle.lists.specs.Lists.{howMany}
 use Rattle.ground.specs.Compass.{Dir, E, SE, S, SW, W, NW, N, NE, dirs}
 use Rattle.ground.specs.Grid.{Grid, Link, gridOf, ground, neighbour, flowsIn, inflow}
 use Rattle.ground.specs.Grid.{inflowsFrom, inflows}
-use Rattle.ground.proofs.Cells.{code-inside, ground-inflows}
+use Rattle.ground.proofs.Cells.{ground-inflows}
 use Rattle.moves.specs.declared.Spot.{Spot}
 use Rattle.moves.specs.declared.Spot.the-variants.{Off, On}
 use Rattle.moves.specs.Moves.{spotCell, dirAt}
 use Rattle.moves.specs.Walks.{ifFlowsIn, inflowFrom, FlowsFrom}
 use Rattle.inflows.specs.Values.{flowsAt}
 use Rattle.counting.specs.Counting.{countedWord}
-
--- ---- ground by the code that is read
-
-module _ (rows cols : ℕ) (codes : List ℕ) {x : ℕ} (inside : x < rows * cols) where
-  pub is-ground : (getD codes x 0 ≡ 0 → ⊥) → ground (gridOf rows cols codes) x ≡ true
-  is-ground h = ap (λ (k : ℕ). not (eqb k 0)) (code-inside (gridOf rows cols codes) x inside)
-      ∙ ap not (ne-eqb (getD codes x 0) 0 h)
-
-  pub is-null : getD codes x 0 ≡ 0 → ground (gridOf rows cols codes) x ≡ false
-  is-null h = ap (λ (k : ℕ). not (eqb k 0)) (code-inside (gridOf rows cols codes) x inside)
-      ∙ ap not (eq-eqb (getD codes x 0) 0 h)
 
 -- ---- does a neighbour flow in?
 

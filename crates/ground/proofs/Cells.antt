@@ -11,7 +11,7 @@ use native.Mathlib.Decide.{decLt}
 use lib.ListN.{getD}
 use lib.Arith.{digits-div, digits-mod}
 use lib.Dec.{eqb, ltb}
-use borrow.Author.Tests.{eqb-true, eq-eqb, ltb-true, lt-ltb, le-ltb}
+use borrow.Author.Tests.{eqb-true, eq-eqb, ne-eqb, ltb-true, lt-ltb, le-ltb}
 use Rattle.lists.specs.Lists.{sumOf}
 use Rattle.ground.specs.Compass.{
   Dir,
@@ -159,6 +159,13 @@ module _ (g : Grid) where
   pub code-inside : (x : ℕ) → x < cellCount g → codeAt g x ≡ getD (g .codes) x 0
   unfolding codeAt
   code-inside x h = rw (lt-ltb x (cellCount g) h)
+
+  -- ground by the code that stands in the list
+  pub null-at : (x : ℕ) → x < cellCount g → getD (g .codes) x 0 ≡ 0 → ground g x ≡ false
+  null-at x h e = ap not (eq-eqb (codeAt g x) 0 (code-inside x h ∙ e))
+
+  pub ground-at : (x : ℕ) → x < cellCount g → (getD (g .codes) x 0 ≡ 0 → ⊥) → ground g x ≡ true
+  ground-at x h f = ap not (ne-eqb (codeAt g x) 0 (λ e. f (sym (code-inside x h) ∙ e)))
 
   pub code-outside : (x : ℕ) → cellCount g ≤ x → codeAt g x ≡ 0
   unfolding codeAt

@@ -5,8 +5,9 @@ use Prim.Native.Nat.{_+_, _-_, _*_}
 use native.Mathlib.Omega.{arith}
 use borrow.Author.Needs.{needs}
 use Rattle.ground.specs.Grid.{gridOf}
+use Rattle.ground.proofs.Cells.{null-at, ground-at}
 use Rattle.moves.proofs.Spots.{size, inside}
-use Rattle.counting.proofs.Words.{is-ground, is-null, null-word, SoFar, begin, fits, more, no-more, all-counted}
+use Rattle.counting.proofs.Words.{null-word, SoFar, begin, fits, more, no-more, all-counted}
 use Rattle.counting.proofs.word_at.Statement.{statement}
 use Rattle.counting.proofs.word_at.Tie as tie
 
@@ -58,13 +59,13 @@ shared-slice-read-if2 c =
 returns : tie.Need-returns Inv-loop μ-loop
 returns c =
     let s = c .before .before .before .before .before in
-    sym (null-word _ _ (is-null _ _ _ (inside (s .pre)) (c .if2 .taken)))
+    sym (null-word _ _ (null-at _ _ (inside (s .pre)) (c .if2 .taken)))
 
 returns-2 : tie.Need-returns-2 Inv-loop μ-loop
 returns-2 c =
     let s = c .before .before .before .before .before in
     all-counted (c .before .before .before .loop .inv) (c .before .before .loop-test .left)
-    (is-ground _ _ _ (inside (s .pre)) (c .if2 .left))
+    (ground-at _ _ (inside (s .pre)) (c .if2 .left))
 
 pub word-at-spec : {M : Type 1} → statement M
 word-at-spec =
