@@ -1,5 +1,6 @@
 pub mod Checks
 pub mod Entries
+pub mod FlowLengths
 pub mod Answers
 pub mod Tracings
 pub mod Seen

@@ -4,3 +4,4 @@ pub mod Walk
 pub mod Accumulation
 pub mod Subwatershed
 pub mod Forest
+pub mod FlowLengths
