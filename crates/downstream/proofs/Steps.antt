@@ -65,7 +65,7 @@ offset-small {cols} h d = omega (arith, shift-le (colShift d), go (rowShift d))
     go more = omega arith
 
 -- a row or a column after a shift
-shift-is : (s : Shift) (bound x z : ℕ) → shifted s bound x ≡ some z → z + 1 ≡ x + shiftNumber s
+pub shift-is : (s : Shift) (bound x z : ℕ) → shifted s bound x ≡ some z → z + 1 ≡ x + shiftNumber s
 shift-is less bound zero z e = let w : _≡_ {A = ℕ} 0 1 = cc in absurd (omega arith)
 shift-is less bound (suc x) z e = let q : x ≡ z = cc in omega arith
 shift-is as-is bound x z e = let q : x ≡ z = cc in omega arith

@@ -17,7 +17,7 @@ pub enum Downstream {
 }
 
 // The place of a code's direction in the order of the neighbours; the last where the code has none.
-fn place_of(code: u8) -> usize
+pub fn place_of(code: u8) -> usize
     ensures { λ r. ⌜ r ≡ placeBy (dirOf code) ⌝ }
 {
     match code {

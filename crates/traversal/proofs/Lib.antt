@@ -1,0 +1,3 @@
+pub mod Traversing
+pub mod Moving
+pub mod Turning
