@@ -9,3 +9,4 @@ pub mod Cells
 pub mod GridNetwork
 pub mod Ground
 pub mod AllOutlets
+pub mod FlowLengths

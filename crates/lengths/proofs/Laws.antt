@@ -26,6 +26,14 @@ pub record LengthLaws {S : Type 0} (𝓛 : Lengths S) : Type 0 where
   pub mono : (x y : 𝓛 .Len) (s : S) → 𝓛 .shorter y x ≡ false → 𝓛 .shorter (𝓛 ._▹_ y s) (𝓛 ._▹_ x s) ≡ false
   pub at-top : (x : 𝓛 .Len) (s : S) → 𝓛 .shorter (𝓛 ._▹_ x (𝓛 .top)) (𝓛 ._▹_ x s) ≡ false
 
+-- no length is shorter than itself
+pub irrefl : {S : Type 0} (𝓛 : Lengths S) → LengthLaws 𝓛 → (x : 𝓛 .Len) → 𝓛 .shorter x x ≡ false
+irrefl 𝓛 laws x = go (𝓛 .shorter x x) refl
+  where
+    go : (b : Bool) → 𝓛 .shorter x x ≡ b → 𝓛 .shorter x x ≡ false
+    go true e = laws .asym x x e
+    go false e = e
+
 -- lengths that stand for p + q√k, whose steps stand for i + j√k
 module _ (k : ℕ) {S : Type 0} (𝓛 : Lengths S) (p q : 𝓛 .Len → ℕ) (i j : S → ℕ) where
   open Lengths 𝓛 using (Len, _▹_, top, shorter)

@@ -6,7 +6,7 @@ use mathlib.Core.List.{List, [], _∷_}
 use Prim.Native.Nat.{ℕ, zero, suc, _+_, _≤_}
 use native.Mathlib.Omega.{arith}
 use Rattle.lengths.specs.Lengths.{Lengths}
-use Rattle.lengths.proofs.Laws.{LengthLaws}
+use Rattle.lengths.proofs.Laws.{LengthLaws, irrefl}
 use Rattle.lists.specs.Lists.{Every, keepIf}
 use Rattle.ground.specs.Walk.{At}
 use Rattle.ground.specs.Forest.{Forest, bare, tree, size, Which, cellsAbove, cellsFrom}
@@ -14,7 +14,7 @@ use Rattle.lists.proofs.Lists.{every-append, every-map, every-keep, keep-append
 use Rattle.search.specs.Search.{longest, State, fresh, meetIf, belowGreatest, Rule, firstRule, drops, dropCells}
 use Rattle.search.specs.Search.{visit, searchAbove, searchFrom}
 use Rattle.lengths.specs.Lengths.{farthest}
-use Rattle.search.proofs.Meeting.{AtMost, meets, meets-append, meets-keep, irrefl, le-lt, meets-longest}
+use Rattle.search.proofs.Meeting.{AtMost, meets, meets-append, meets-keep, le-lt, meets-longest}
 use Rattle.search.proofs.Meeting.{meets-vain}
 
 and-right : (a b : Bool) → (a && b) ≡ true → b ≡ true

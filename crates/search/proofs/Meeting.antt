@@ -6,7 +6,7 @@ use mathlib.Core.Logic.{inl, inr}
 use mathlib.Core.List.{List, [], _∷_, _++_, append-assoc, append-nil}
 use borrow.Author.Tests.{not-true}
 use Rattle.lengths.specs.Lengths.{Lengths}
-use Rattle.lengths.proofs.Laws.{LengthLaws}
+use Rattle.lengths.proofs.Laws.{LengthLaws, irrefl}
 use Rattle.lists.specs.Lists.{In, Every, keepIf, only}
 use Rattle.ground.specs.Walk.{At}
 use Rattle.lists.proofs.Lists.{every-map, only-append, only-none, or-false, in-only, only-in}
@@ -61,13 +61,6 @@ module _ {S : Type 0} (𝓛 : Lengths S) (laws : LengthLaws 𝓛) where
   open Lengths 𝓛 using (Len, start, _▹_, top, shorter)
   open LengthLaws laws using (asym, trans, grows, mono, at-top)
 
-  pub irrefl : (x : Len) → shorter x x ≡ false
-  irrefl x = go (shorter x x) refl
-    where
-      go : (b : Bool) → shorter x x ≡ b → shorter x x ≡ false
-      go true e = asym x x e
-      go false e = e
-
   pub lt-le : (x y z : Len) → shorter x y ≡ true → AtMost 𝓛 y z → shorter x z ≡ true
   lt-le x y z h i = go (shorter x z) refl
     where
@@ -90,7 +83,7 @@ module _ {S : Type 0} (𝓛 : Lengths S) (laws : LengthLaws 𝓛) where
   -- what is not exceeded is at most g
   pub leads-bound : {xs : List (At Len)} {g : At Len} {gs : List (At Len)} → Leads xs g gs
       → Every (λ x. AtMost 𝓛 (x .len) (g .len)) xs
-  leads-bound {xs} {g} i = go xs (i .greatest (g .len) ∙ irrefl (g .len))
+  leads-bound {xs} {g} i = go xs (i .greatest (g .len) ∙ irrefl 𝓛 laws (g .len))
     where
       go : (ys : List (At Len)) → exceeded 𝓛 ys (g .len) ≡ false → Every (λ x. AtMost 𝓛 (x .len) (g .len)) ys
       go [] h = tt
@@ -134,7 +127,7 @@ module _ {S : Type 0} (𝓛 : Lengths S) (laws : LengthLaws 𝓛) where
       all = rw (
         only-append (λ y. not (shorter (y .len) (x .len))) xs (x ∷ []),
         only-none (λ y. not (shorter (y .len) (x .len))) xs gone,
-        irrefl (x .len),
+        irrefl 𝓛 laws (x .len),
       );
     }
       where
@@ -168,7 +161,7 @@ module _ {S : Type 0} (𝓛 : Lengths S) (laws : LengthLaws 𝓛) where
   meets-longest (x ∷ xs) = leads-meets (x ∷ []) x [] first xs
     where
       first : Leads (x ∷ []) x []
-      first = record { greatest = λ l. or-off (shorter l (x .len)); all = rw (irrefl (x .len)) refl }
+      first = record { greatest = λ l. or-off (shorter l (x .len)); all = rw (irrefl 𝓛 laws (x .len)) refl }
 
   -- what is shorter than the greatest is met in vain
   pub meets-vain : (g : At Len) (gs xs : List (At Len)) → Every (λ x. shorter (x .len) (g .len) ≡ true) xs
