@@ -17,6 +17,7 @@ use Rattle.ground.specs.Compass.{Dir, squares}
 use Rattle.ground.specs.Grid.{Grid, Link, cellCount, ground, next, inflows}
 use Rattle.ground.specs.Subwatershed.{walked, belongs, isOutlet, inSubwatershed, pathFrom}
 use Rattle.ground.proofs.Agreement.{Agrees, fewer-next}
+use Rattle.ground.proofs.Walks.{walked-out, walked-next}
 use Rattle.ground.proofs.Cells.{in-rows}
 use Rattle.ground.proofs.Ground.{𝓝, lent, at-most-cells}
 use Rattle.moves.specs.declared.Walk.{Walk}
@@ -27,7 +28,7 @@ use Rattle.checks.specs.Tests.{isPlaced}
 use Rattle.drawing.specs.Measuring.{Surveyed, OutletsIn, NoneBetween, MarkedAt, pathLength}
 use Rattle.drawing.specs.Cells.{cellOf, BeginsAt}
 use Rattle.drawing.proofs.Marks.{none-higher}
-use Rattle.drawing.proofs.Walked.{walked-out, belongs-out, walked-next, belongs-next, belongs-end}
+use Rattle.drawing.proofs.Walked.{belongs-out, belongs-next, belongs-end}
 use Rattle.drawing.proofs.Stepping.{steps, Onward, onward, ended}
 
 -- the outlets of a catchment

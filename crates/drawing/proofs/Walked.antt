@@ -13,22 +13,12 @@ use Rattle.lengths.specs.Lengths.{Lengths}
 use Rattle.ground.specs.Grid.{Link}
 use Rattle.ground.specs.Walk.{At}
 use Rattle.ground.specs.Subwatershed.{walked, longer, firstOutlet, belongs}
+use Rattle.ground.proofs.Walks.{walked-out, walked-next}
 use Rattle.ground.proofs.Network.{first-out, first-next, first-end, first-induct}
 use Rattle.ground.proofs.Subwatersheds.{true-belongs}
 use Rattle.drawing.specs.FlowPath.{FlowPath}
 
 module _ {S : Type 0} (next : ℕ → Option (Link S)) (outlet : ℕ → Bool) where
-  -- at an outlet the walk is over, at another cell it goes on
-  pub walked-out : (n c : ℕ) → outlet c ≡ true → walked next outlet n c ≡ c ∷ []
-  unfolding walked
-  walked-out zero c e = refl
-  walked-out (suc n) c e = rw (e, walked)
-
-  pub walked-next : (c : ℕ) → outlet c ≡ false → (n : ℕ) (h : Link S) → next c ≡ some h
-      → walked next outlet (suc n) c ≡ c ∷ walked next outlet n (h .cell)
-  unfolding walked
-  walked-next c v n h e = rw (v, e, walked)
-
   -- a flow path of one cell,
   path-one : (c : ℕ) → FlowPath next outlet c c (c ∷ [])
   path-one c = record {
@@ -93,6 +83,7 @@ module _ {S : Type 0} (next : ℕ → Option (Link S)) (outlet : ℕ → Bool) w
     pub flow-path : (n o c : ℕ) → belongs 𝓛 next outlet n o c ≡ true → FlowPath next outlet o c (walked next outlet n c)
     flow-path n o c b = let r = true-belongs 𝓛 next outlet n o c b in
         first-induct 𝓛 next outlet (λ m x a. FlowPath next outlet (a .cell) x (walked next outlet m x))
-        (λ m x v. rw (walked-out m x v) (path-one x))
-        (λ m x h a v e f p. rw (walked-next x v m h e) (path-more (a .cell) x h (walked next outlet m (h .cell)) v e p))
+        (λ m x v. rw (walked-out next outlet m x v) (path-one x))
+        (λ m x h a v e f p. rw (walked-next next outlet x v m h e)
+        (path-more (a .cell) x h (walked next outlet m (h .cell)) v e p))
         n c (record { cell = o; len = r .0 }) (r .1)

@@ -131,7 +131,7 @@ module _ {S : Type 0} (𝓛 : Lengths S) where
 
 -- ---- counts
 
-step-counts : (l : Length) (s : Step) → plusStep l s .straight + plusStep l s .diagonal
+pub step-counts : (l : Length) (s : Step) → plusStep l s .straight + plusStep l s .diagonal
     ≡ suc (l .straight + l .diagonal)
 step-counts l Straight = omega arith
 step-counts l Diagonal = omega arith

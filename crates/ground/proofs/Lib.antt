@@ -10,3 +10,4 @@ pub mod GridNetwork
 pub mod Ground
 pub mod AllOutlets
 pub mod FlowLengths
+pub mod Through

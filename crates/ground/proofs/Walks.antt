@@ -9,7 +9,7 @@ use Rattle.lengths.specs.Lengths.{Lengths}
 use Rattle.ground.specs.Compass.{Dir, opposite}
 use Rattle.ground.specs.Grid.{Link}
 use Rattle.ground.specs.Walk.{At, stride, strides, after, ends}
-use Rattle.ground.specs.Subwatershed.{descent, route}
+use Rattle.ground.specs.Subwatershed.{descent, walked, route}
 
 module _ {S : Type 0} (next : ℕ → Option (Link S)) where
   pub ends-next : (n x : ℕ) (h : Link S) → next x ≡ some h → ends next (suc n) x ≡ ends next n (h .cell)
@@ -55,6 +55,18 @@ module _ {S : Type 0} (next : ℕ → Option (Link S)) where
   pub after-zero : (c : ℕ) → after next zero c ≡ some c
   unfolding after
   after-zero c = refl
+
+module _ {S : Type 0} (next : ℕ → Option (Link S)) (outlet : ℕ → Bool) where
+  -- at an outlet the walk is over, at another cell it goes on
+  pub walked-out : (n c : ℕ) → outlet c ≡ true → walked next outlet n c ≡ c ∷ []
+  unfolding walked
+  walked-out zero c e = refl
+  walked-out (suc n) c e = rw (e, walked)
+
+  pub walked-next : (c : ℕ) → outlet c ≡ false → (n : ℕ) (h : Link S) → next c ≡ some h
+      → walked next outlet (suc n) c ≡ c ∷ walked next outlet n (h .cell)
+  unfolding walked
+  walked-next c v n h e = rw (v, e, walked)
 
 module _ (next : ℕ → Option (Link Dir)) (outlet : ℕ → Bool) where
   pub route-out : (n c : ℕ) → outlet c ≡ true → route next outlet n c ≡ []

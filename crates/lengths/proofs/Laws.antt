@@ -6,6 +6,7 @@ use mathlib.Core.List.{List, [], _∷_}
 use Prim.Native.Nat.{ℕ, zero, suc, _+_, _*_, _<_}
 use native.Mathlib.Nat.{add-zero}
 use native.Mathlib.Omega.{arith}
+use native.Mathlib.Decide.{decLt}
 use lib.ListN.{length}
 use Rattle.lengths.specs.declared.Step.{Step}
 use Rattle.lengths.specs.declared.Step.the-variants.{Straight, Diagonal}
@@ -125,6 +126,27 @@ step-keeps l m s = compared-is (plusStep l s) (plusStep m s)
       squares-stand .adds-q y s,
       shift x y,
     )
+
+-- A LENGTH ADDED TO BOTH KEEPS THE ORDER,
+pub sum-keeps : (d l m : Length) → isShorter (counts (d .straight + l .straight) (d .diagonal + l .diagonal))
+    (counts (d .straight + m .straight) (d .diagonal + m .diagonal)) ≡ isShorter l m
+sum-keeps d l m = shorter-is (counts (d .straight + l .straight) (d .diagonal + l .diagonal))
+    (counts (d .straight + m .straight) (d .diagonal + m .diagonal))
+    ∙ surd-shift-left 2 (l .straight) (l .diagonal) (m .straight) (m .diagonal) (d .straight) (d .diagonal)
+    ∙ sym (shorter-is l m)
+
+-- and added to one makes it no shorter
+pub sum-no-shorter : (d l : Length)
+    → isShorter (counts (d .straight + l .straight) (d .diagonal + l .diagonal)) d ≡ false
+sum-no-shorter d l = elim (decLt 0 (l .straight + 2 * l .diagonal)) [
+  | yes h ↦ square-laws .asym d (counts (d .straight + l .straight) (d .diagonal + l .diagonal))
+      (shorter-is d (counts (d .straight + l .straight) (d .diagonal + l .diagonal))
+      ∙ surd-more 2 (d .straight) (d .diagonal) (l .straight) (l .diagonal) h)
+  | no h ↦
+      let e : d .straight + l .straight ≡ d .straight = omega arith in
+      let f : d .diagonal + l .diagonal ≡ d .diagonal = omega arith in
+      rw (e, f) (irrefl squareCells square-laws d)
+]
 
 -- N STEPS NEVER EXCEED N√2
 module _ {S : Type 0} (𝓛 : Lengths S) (laws : LengthLaws 𝓛) where
