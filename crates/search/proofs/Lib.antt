@@ -5,3 +5,5 @@ pub mod Ordered
 pub mod Demand3
 pub mod Faithful
 pub mod Neighbours
+pub mod FlowLengths
+pub mod FlowLengthsCase

@@ -2,3 +2,4 @@ pub mod Search
 pub mod Neighbours
 pub mod Tracing
 pub mod Demand
+pub mod Smith
