@@ -15,7 +15,7 @@ use Rattle.ground.specs.Grid.{Grid, gridOf, cellCount, ground}
 use Rattle.ground.specs.Accumulation.{agrees}
 use Rattle.moves.specs.Lent.{LentGrid}
 use Rattle.agreement.specs.Lent.{Lent}
-use Rattle.answers.specs.Checks.{Check, firstFailed, allPass, isSide}
+use Rattle.answers.specs.Checks.{Check, firstFailed, allPass, isSide, different}
 use Rattle.answers.specs.Checks.{check10, check11, check12, check14, check15, check16, check17, check18}
 use Rattle.answers.specs.Entries.{Catchment, gridChecks, agreedChecks, outletChecks, placeChecks}
 use Rattle.answers.proofs.FirstFailed.{all-at, apart, passed, goes-on, never}
@@ -78,6 +78,7 @@ pub record Listed (g : Grid) (accumulation outlets : List ℕ) : Type 0 where
   pub agreement : agrees g accumulation ≡ true
   pub few-outlets : length outlets ≤ 256
   pub at-ground : (j : ℕ) → j < length outlets → ground g (getD outlets j 0) ≡ true
+  pub are-different : different outlets ≡ true
 
 -- ---- what follows 12, and none of 10 to 12 is 13
 
@@ -126,6 +127,7 @@ module _ (c : Catchment) (lent : List ℕ) where
         few-outlets = leb-true (length outlets) 256 (few .1);
         at-ground = λ j i. and-both (ltb (getD outlets j 0) (cellCount (c .grid))) (ground (c .grid) (getD outlets j 0))
             (all-at (isPlaced (c .grid)) outlets (p 16) j i) .1;
+        are-different = p 17;
       }
 
   module _ (place : ℕ) where

@@ -9,6 +9,7 @@ use native.Mathlib.Numerals.{add-one}
 use native.Mathlib.Omega.{arith}
 use lib.ListN.{length}
 use Rattle.lists.specs.Lists.{howMany}
+use Rattle.lists.proofs.Counts.{many-le}
 use Rattle.ground.specs.Compass.{Dir, E, SE, S, SW, W, NW, N, NE, dirs}
 use Rattle.ground.specs.Grid.{Grid, Link, gridOf, ground, neighbour, flowsIn, inflow}
 use Rattle.ground.specs.Grid.{inflowsFrom, inflows}
@@ -55,16 +56,6 @@ module _ {rows cols row col k : ℕ} {codes : List ℕ} {s : Spot} (p : FlowsFro
       (neighbour (gridOf rows cols codes) (row * cols + col) (dirAt k)) (sym there ∙ p .is-cell)
 
 -- ---- how many do
-
--- no more than are asked
-pub many-le : (f : ℕ → Bool) (n : ℕ) → howMany f n ≤ n
-unfolding howMany
-many-le f zero = omega arith
-many-le f (suc n) = omega (arith, many-le f n, go (f n))
-  where
-    go : (b : Bool) → cond b 1 0 ≤ 1
-    go true = omega arith
-    go false = omega arith
 
 module _ (g : Grid) (x : ℕ) where
   one-more : (d : Dir) (o : Option ℕ) (ks : List (Link Dir))

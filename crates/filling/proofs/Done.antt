@@ -1,75 +1,14 @@
 -- How many cells are done: those that are passed down, and null cells that are looked at.
 -- Assumes nothing.
-use mathlib.Core.Path.{_≡_, refl, sym, ap, ap₂, _∙_}
+use mathlib.Core.Path.{_≡_, refl, sym, ap, _∙_}
 use mathlib.Core.Bool.{Bool, true, false, cond, not, _&&_, _||_, or-true, or-false, true≢false}
 use Prim.Native.Nat.{ℕ, zero, suc, _+_, _≤_, _<_}
 use native.Mathlib.Omega.{arith}
 use lib.Dec.{eqb, ltb}
 use borrow.Author.Tests.{eqb-true, eqb-false, ltb-true, ltb-false, lt-ltb, le-ltb}
 use Rattle.lists.specs.Lists.{howMany}
-use Rattle.counting.proofs.Words.{many-le}
+use Rattle.lists.proofs.Counts.{also, also-same, also-other, many-le, many-all, many-full, many-same, many-more}
 use Rattle.filling.specs.Packed.{isDone, Tally}
-use Rattle.filling.proofs.Totals.{also, also-same, also-other}
-
--- ---- counts
-
-module _ (f : ℕ → Bool) where
-  many-all : (n : ℕ) → ((x : ℕ) → x < n → f x ≡ true) → howMany f n ≡ n
-  unfolding howMany
-  many-all zero h = refl
-  many-all (suc n) h =
-      rw (h n (omega arith)) (omega (arith, many-all n (λ x l. h x (omega arith))))
-
-  many-full : (n : ℕ) → howMany f n ≡ n → (x : ℕ) → x < n → f x ≡ true
-  unfolding howMany
-  many-full zero e x l = absurd (omega arith)
-  many-full (suc n) e x l = go (f n) refl (eqb x n) refl (λ k. many-full n k x)
-    where
-      less : howMany f n + 1 ≡ suc n → howMany f n ≡ n
-      less k = omega arith
-
-      short : howMany f n + 0 ≡ suc n → ⊥
-      short k = omega (arith, many-le f n)
-
-      below : (x ≡ n → ⊥) → x < n
-      below k = omega arith
-
-      go : (b : Bool) → f n ≡ b → (t : Bool) → eqb x n ≡ t → (howMany f n ≡ n → x < n → f x ≡ true) → f x ≡ true
-      go true q true s ih = ap f (eqb-true x n s) ∙ q
-      go true q false s ih = ih (less (rw q at e)) (below (eqb-false x n s))
-      go false q t s ih = absurd (short (rw q at e))
-
-module _ (f g : ℕ → Bool) where
-  many-same : (n : ℕ) → ((x : ℕ) → x < n → g x ≡ f x) → howMany g n ≡ howMany f n
-  unfolding howMany
-  many-same zero h = refl
-  many-same (suc n) h =
-      ap₂ _+_ (many-same n (λ x l. h x (omega arith))) (ap (λ (b : Bool). cond b 1 0) (h n (omega arith)))
-
-  many-more : (n y : ℕ) → y < n → f y ≡ false → g y ≡ true → ((x : ℕ) → (x ≡ y → ⊥) → g x ≡ f x)
-      → howMany g n ≡ suc (howMany f n)
-  unfolding howMany
-  many-more zero y l a b h = absurd (omega arith)
-  many-more (suc n) y l a b h = go (eqb y n) refl (λ k. many-more n y k a b h)
-    where
-      apart : (x : ℕ) → x < n → x ≡ n → ⊥
-      apart x k e = omega arith
-
-      below : (y ≡ n → ⊥) → y < n
-      below k = omega arith
-
-      go : (t : Bool) → eqb y n ≡ t → (y < n → howMany g n ≡ suc (howMany f n))
-          → howMany g n + cond (g n) 1 0 ≡ suc (howMany f n + cond (f n) 1 0)
-      go true s ih =
-          let q = eqb-true y n s in
-          let u : g n ≡ true = ap g (sym q) ∙ b in
-          let v : f n ≡ false = ap f (sym q) ∙ a in
-          rw (u, v) (omega (arith, many-same n (λ x k. h x (λ e. apart x k (e ∙ q)))))
-      go false s ih =
-          let d = eqb-false y n s in
-          rw (h n (λ e. d (sym e))) (omega (arith, ih (below d)))
-
--- ---- the tally
 
 -- one cell more is before suc n
 less-suc : (n c : ℕ) → (c ≡ n → ⊥) → ltb c (suc n) ≡ ltb c n

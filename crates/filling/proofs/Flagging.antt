@@ -11,7 +11,8 @@ use borrow.Author.Tests.{eqb-true, eqb-false}
 use Rattle.ground.specs.Grid.{Link}
 use Rattle.ground.proofs.Network.{Network}
 use Rattle.filling.specs.Packed.{oneEach, flagIf, waiting, Flagging}
-use Rattle.filling.proofs.Totals.{also, also-same, also-other, total-where}
+use Rattle.lists.proofs.Counts.{also, also-same, also-other}
+use Rattle.filling.proofs.Totals.{total-where}
 use Rattle.filling.proofs.Passing.{waiting-hit, waiting-miss}
 
 -- the same cells, told by another test

@@ -19,9 +19,10 @@ use Rattle.moves.specs.Walks.{Flows}
 use Rattle.moves.proofs.Spots.{size}
 use Rattle.filling.specs.Packed.{flagIf, waiting, Flagging}
 use Rattle.filling.specs.Filling.{Fillable, Flagged}
-use Rattle.filling.proofs.Totals.{also, ones-few}
+use Rattle.lists.proofs.Counts.{also}
+use Rattle.filling.proofs.Totals.{ones-few}
 use Rattle.filling.proofs.Flags.{inflows-few}
-use Rattle.filling.proofs.Sweeps.{member-more}
+use Rattle.lists.proofs.Members.{member-more}
 use Rattle.filling.proofs.Flagging.{flagging-same, flagged-twice, flagged-end, flagged-room, flagged-below}
 use Rattle.filling.proofs.Outlets.{flows-ground}
 

@@ -16,18 +16,8 @@ use Rattle.ground.proofs.Network.{Network, times}
 use Rattle.ground.proofs.Agreement.{Agrees, noOutlet, agrees-at-most}
 use Rattle.filling.specs.Cut.{cutNext, cutUps}
 use Rattle.filling.specs.Packed.{oneEach, waiting, arrived, Tally, Packed, Walking}
-use Rattle.filling.proofs.Totals.{
-  also,
-  also-same,
-  also-other,
-  putAt,
-  put-same,
-  put-other,
-  total-where,
-  total-add,
-  total-none,
-  times-in,
-}
+use Rattle.lists.proofs.Counts.{also, also-same, also-other}
+use Rattle.filling.proofs.Totals.{putAt, put-same, put-other, total-where, total-add, total-none, times-in}
 use Rattle.filling.proofs.Cut.{cut, total-uncut}
 use Rattle.filling.proofs.Done.{tally-none, tally-ground, tally-null, tally-passed}
 

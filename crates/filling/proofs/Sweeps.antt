@@ -1,38 +1,19 @@
--- The first outlets and one more, and one turn of taking flags away.
+-- One turn of taking flags away.
 -- Assumes nothing.
 use mathlib.Core.Path.{_≡_, refl, sym, ap, _∙_, subst}
-use mathlib.Core.Bool.{Bool, true, false, _||_, or-true, or-false, or-assoc}
-use mathlib.Core.List.{List, [], _∷_, _++_}
+use mathlib.Core.Bool.{Bool, true, false}
+use mathlib.Core.List.{List}
 use Prim.Native.Nat.{ℕ, suc, _+_, _%_, _≤_, _<_, _^_}
 use native.Mathlib.Numerals.{add-one}
 use native.Mathlib.Omega.{arith}
 use lib.ListN.{length, getD, set, take}
-use lib.Seq.{getD-set-same, getD-set-other, take-suc}
+use lib.Seq.{getD-set-same, getD-set-other}
 use lib.Dec.{eqb}
 use borrow.Author.Tests.{eqb-true, eqb-false}
 use Rattle.lists.specs.Lists.{member}
 use Rattle.filling.specs.Filling.{stripIf, Stripped}
 use Rattle.lists.proofs.Kept.{kept-all, kept-then, kept-set}
-
--- ---- the first j outlets and one more
-
-member-snoc : (x : ℕ) (xs : List ℕ) (o : ℕ) → member x (xs ++ (o ∷ [])) ≡ (member x xs || eqb o x)
-member-snoc x [] o = or-false (eqb o x)
-member-snoc x (y ∷ xs) o = ap (λ (b : Bool). eqb y x || b) (member-snoc x xs o)
-    ∙ sym (or-assoc (eqb y x) (member x xs) (eqb o x))
-
-module _ (outlets : List ℕ) (j : ℕ) (h : j < length outlets) (x : ℕ) where
-  pub member-more : member x (take (suc j) outlets) ≡ (member x (take j outlets) || eqb (getD outlets j 0) x)
-  member-more = ap (member x) (take-suc outlets j 0 h) ∙ member-snoc x (take j outlets) (getD outlets j 0)
-
-  member-it : eqb (getD outlets j 0) x ≡ true → member x (take (suc j) outlets) ≡ true
-  member-it e = member-more ∙ ap (λ (b : Bool). member x (take j outlets) || b) e ∙ or-true (member x (take j outlets))
-
-  member-other : eqb (getD outlets j 0) x ≡ false → member x (take (suc j) outlets) ≡ member x (take j outlets)
-  member-other e = member-more ∙ ap (λ (b : Bool). member x (take j outlets) || b) e
-      ∙ or-false (member x (take j outlets))
-
--- ---- taking flags away
+use Rattle.lists.proofs.Members.{member-it, member-other}
 
 pub strip-begin : {n : ℕ} {outlets l : List ℕ} → Stripped n outlets 0 l l
 strip-begin = record { kept = kept-all; words = λ x. refl }

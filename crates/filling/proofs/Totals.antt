@@ -16,10 +16,6 @@ use Rattle.ground.proofs.Network.{times}
 use Rattle.ground.proofs.Agreement.{noOutlet}
 use Rattle.filling.specs.Packed.{oneEach}
 
--- a set with one cell more
-abbrev pub also : (ℕ → Bool) → ℕ → ℕ → Bool
-also these y c = these c || eqb c y
-
 -- a function changed at one place
 abbrev pub putAt : (ℕ → ℕ) → ℕ → ℕ → ℕ → ℕ
 putAt f z v x = cond (eqb x z) v (f x)
@@ -29,12 +25,6 @@ put-same f z v x h = rw (eq-eqb x z h)
 
 pub put-other : (f : ℕ → ℕ) (z v x : ℕ) → (x ≡ z → ⊥) → putAt f z v x ≡ f x
 put-other f z v x h = rw (ne-eqb x z h)
-
-pub also-same : (these : ℕ → Bool) (y c : ℕ) → c ≡ y → also these y c ≡ true
-also-same these y c h = rw (eq-eqb c y h) (or-true (these c))
-
-pub also-other : (these : ℕ → Bool) (y c : ℕ) → (c ≡ y → ⊥) → also these y c ≡ these c
-also-other these y c h = rw (ne-eqb c y h) (or-false (these c))
 
 module _ {S : Type 0} (ups : ℕ → List (Link S)) where
   -- two sums that skip the same, and are the same where they do not

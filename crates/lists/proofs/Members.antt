@@ -1,14 +1,14 @@
 -- Laws of membership in a list of numbers, as it is looked for from a place on.
 -- Assumes nothing.
-use mathlib.Core.Path.{_≡_, refl, sym, _∙_}
-use mathlib.Core.Bool.{Bool, true, false, true≢false, or-true}
+use mathlib.Core.Path.{_≡_, refl, sym, ap, _∙_}
+use mathlib.Core.Bool.{Bool, true, false, true≢false, _||_, or-true, or-false, or-assoc}
 use mathlib.Core.Logic.{inl, inr}
-use mathlib.Core.List.{List, [], _∷_}
+use mathlib.Core.List.{List, [], _∷_, _++_}
 use Prim.Native.Nat.{ℕ, zero, suc, _+_, _≤_, _<_}
 use native.Mathlib.Numerals.{add-one}
 use native.Mathlib.Omega.{arith}
-use lib.ListN.{length, getD, drop, drop-of-length-le}
-use lib.Seq.{drop-cons}
+use lib.ListN.{length, getD, take, drop, drop-of-length-le}
+use lib.Seq.{drop-cons, take-suc}
 use lib.Dec.{eqb}
 use borrow.Author.Tests.{eqb-true, eq-eqb, ne-eqb}
 use Rattle.lists.specs.Lists.{In, member}
@@ -51,3 +51,21 @@ module _ (l : List ℕ) (i : ℕ) (b : Bool) (x : ℕ) (left : b ≡ member x (d
 
     pub member-goes-on : (getD l i 0 ≡ x → ⊥) → b ≡ member x (drop (i + 1) l)
     member-goes-on e = left ∙ rw (add-one i, drop-cons l i 0 h, ne-eqb (getD l i 0) x e)
+
+-- ---- the first j and one more
+
+member-snoc : (x : ℕ) (xs : List ℕ) (o : ℕ) → member x (xs ++ (o ∷ [])) ≡ (member x xs || eqb o x)
+member-snoc x [] o = or-false (eqb o x)
+member-snoc x (y ∷ xs) o = ap (λ (b : Bool). eqb y x || b) (member-snoc x xs o)
+    ∙ sym (or-assoc (eqb y x) (member x xs) (eqb o x))
+
+module _ (xs : List ℕ) (j : ℕ) (h : j < length xs) (x : ℕ) where
+  pub member-more : member x (take (suc j) xs) ≡ (member x (take j xs) || eqb (getD xs j 0) x)
+  member-more = ap (member x) (take-suc xs j 0 h) ∙ member-snoc x (take j xs) (getD xs j 0)
+
+  pub member-it : eqb (getD xs j 0) x ≡ true → member x (take (suc j) xs) ≡ true
+  member-it e = member-more ∙ ap (λ (b : Bool). member x (take j xs) || b) e ∙ or-true (member x (take j xs))
+
+  pub member-other : eqb (getD xs j 0) x ≡ false → member x (take (suc j) xs) ≡ member x (take j xs)
+  member-other e = member-more ∙ ap (λ (b : Bool). member x (take j xs) || b) e
+      ∙ or-false (member x (take j xs))

@@ -1,43 +1,17 @@
 -- How a traversal goes on: to an outlet, up to a tributary, down to the cell below.
 -- Assumes nothing.
 use mathlib.Core.Path.{_≡_, refl, sym, ap, _∙_, subst}
-use mathlib.Core.Bool.{Bool, true, false, _||_, true≢false}
+use mathlib.Core.Bool.{Bool, true, false, true≢false}
 use mathlib.Core.Option.{Option, none, some}
 use Prim.Native.Nat.{ℕ, suc, _+_, _≤_, _<_}
 use native.Mathlib.Omega.{arith}
 use native.Mathlib.Decide.{decLt}
-use lib.Dec.{eqb}
-use borrow.Author.Tests.{eqb-true, eq-eqb}
+use Rattle.lists.proofs.Counts.{also, also-same, also-or, also-in, also-not}
 use Rattle.ground.specs.Compass.{Dir, E, SE, S, SW, W, NW, N, NE, opposite, placeOf}
 use Rattle.ground.specs.Grid.{Link}
 use Rattle.ground.proofs.Cells.{opposite-twice}
 use Rattle.moves.specs.Moves.{dirAt}
-use Rattle.traversal.specs.Traversal.{also, Tributary, Traversal, Here}
-
--- a cell among one more is that one, or was among them
-pub also-or : (P : Type 0) (y c : ℕ) (f : ℕ → Bool) → also y f c ≡ true → (c ≡ y → P) → (f c ≡ true → P) → P
-also-or P y c f h one was = go (eqb c y) refl
-  where
-    go : (b : Bool) → eqb c y ≡ b → P
-    go true e = one (eqb-true c y e)
-    go false e = was (rw e at h)
-
-pub also-in : (y c : ℕ) (f : ℕ → Bool) → f c ≡ true → also y f c ≡ true
-also-in y c f h = go (eqb c y) refl
-  where
-    go : (b : Bool) → eqb c y ≡ b → also y f c ≡ true
-    go true e = rw e
-    go false e = rw e h
-
-pub also-one : (y : ℕ) (f : ℕ → Bool) → also y f y ≡ true
-also-one y f = rw (eq-eqb y y refl)
-
-pub also-not : (y c : ℕ) (f : ℕ → Bool) → (c ≡ y → ⊥) → f c ≡ false → also y f c ≡ false
-also-not y c f n h = go (also y f c) refl
-  where
-    go : (b : Bool) → also y f c ≡ b → also y f c ≡ false
-    go true e = also-or (also y f c ≡ false) y c f e (λ q. absurd (n q)) (λ q. absurd (true≢false (sym q ∙ h)))
-    go false e = e
+use Rattle.traversal.specs.Traversal.{Tributary, Traversal, Here}
 
 -- a direction is told by its place
 pub at-place : (d : Dir) → dirAt (placeOf d) ≡ d
@@ -69,25 +43,25 @@ module _ (next : ℕ → Option (Link Dir)) (outlet : ℕ → Bool) where
   module _ (t : Traversal next outlet) (o : ℕ) (is-outlet : outlet o ≡ true) (fresh : t .entered o ≡ false) where
     abbrev pub begun : Traversal next outlet
     begun = record {
-      entered = also o (t .entered);
+      entered = also (t .entered) o;
       left = t .left;
-      left-entered = λ c h. also-in o c (t .entered) (t .left-entered c h);
+      left-entered = λ c h. also-in (t .entered) o c (t .left-entered c h);
       above-left = t .above-left;
-      from-below = λ c d y u h. also-in o c (t .entered) (t .from-below c d y u (was y (u .no-outlet) h));
+      from-below = λ c d y u h. also-in (t .entered) o c (t .from-below c d y u (was y (u .no-outlet) h));
       has-below = λ c h v. t .has-below c (was c v h) v;
       in-order = λ c d e y z u v i h. t .in-order c d e y z u v i (was z (v .no-outlet) h);
     }
       where
-        was : (c : ℕ) → outlet c ≡ false → also o (t .entered) c ≡ true → t .entered c ≡ true
-        was c v h = also-or (t .entered c ≡ true) o c (t .entered) h
+        was : (c : ℕ) → outlet c ≡ false → also (t .entered) o c ≡ true → t .entered c ≡ true
+        was c v h = also-or (t .entered c ≡ true) (t .entered) o c h
             (λ q. absurd (true≢false (sym is-outlet ∙ ap outlet (sym q) ∙ v))) (λ w. w)
 
     pub begun-here : Here next outlet begun o 0
     begun-here = record {
-      is-entered = also-one o (t .entered);
+      is-entered = also-same (t .entered) o o refl;
       not-left = go (t .left o) refl;
       before = λ d y u i. absurd (omega arith);
-      ahead = λ d y u i. also-not o y (t .entered)
+      ahead = λ d y u i. also-not (t .entered) o y
           (λ q. true≢false (sym is-outlet ∙ ap outlet (sym q) ∙ u .no-outlet)) (above d y u (t .entered y) refl);
     }
       where
@@ -108,17 +82,17 @@ module _ (next : ℕ → Option (Link Dir)) (outlet : ℕ → Bool) where
 
       abbrev pub entering : Traversal next outlet
       entering = record {
-        entered = also y (t .entered);
+        entered = also (t .entered) y;
         left = t .left;
-        left-entered = λ c h. also-in y c (t .entered) (t .left-entered c h);
+        left-entered = λ c h. also-in (t .entered) y c (t .left-entered c h);
         above-left = t .above-left;
-        from-below = λ c e z u h. also-in y c (t .entered)
-            (also-or (t .entered c ≡ true) y z (t .entered) h
+        from-below = λ c e z u h. also-in (t .entered) y c
+            (also-or (t .entered c ≡ true) (t .entered) y z h
             (λ q. subst (λ (w : ℕ). t .entered w ≡ true) (same-below x c d e y trib (subst (Tributary next outlet c e) q u)
             .0) (here .is-entered)) (t .from-below c e z u));
-        has-below = λ c h v. also-or ((w : ℕ) × (e : Dir) × Tributary next outlet w e c) y c (t .entered) h
+        has-below = λ c h v. also-or ((w : ℕ) × (e : Dir) × Tributary next outlet w e c) (t .entered) y c h
             (λ q. (x, d, subst (Tributary next outlet x d) (sym q) trib)) (λ w. t .has-below c w v);
-        in-order = λ c e f z w u v i h. also-or (t .left z ≡ true) y w (t .entered) h
+        in-order = λ c e f z w u v i h. also-or (t .left z ≡ true) (t .entered) y w h
             (λ q. order c e f z u (subst (Tributary next outlet c f) q v) i) (t .in-order c e f z w u v i);
       }
         where
@@ -135,10 +109,10 @@ module _ (next : ℕ → Option (Link Dir)) (outlet : ℕ → Bool) where
 
       pub entering-here : Here next outlet entering y 0
       entering-here = record {
-        is-entered = also-one y (t .entered);
+        is-entered = also-same (t .entered) y y refl;
         not-left = go (t .left y) refl;
         before = λ e z u i. absurd (omega arith);
-        ahead = λ e z u i. also-not y z (t .entered) (λ q. self e z u q) (above e z u (t .entered z) refl);
+        ahead = λ e z u i. also-not (t .entered) y z (λ q. self e z u q) (above e z u (t .entered z) refl);
       }
         where
           go : (b : Bool) → t .left y ≡ b → t .left y ≡ false
@@ -166,14 +140,14 @@ module _ (next : ℕ → Option (Link Dir)) (outlet : ℕ → Bool) where
       abbrev pub leaving : Traversal next outlet
       leaving = record {
         entered = t .entered;
-        left = also x (t .left);
-        left-entered = λ c h. also-or (t .entered c ≡ true) x c (t .left) h
+        left = also (t .left) x;
+        left-entered = λ c h. also-or (t .entered c ≡ true) (t .left) x c h
             (λ q. subst (λ (w : ℕ). t .entered w ≡ true) (sym q) (here .is-entered)) (t .left-entered c);
-        above-left = λ c e z u h. also-in x z (t .left) (also-or (t .left z ≡ true) x c (t .left) h
+        above-left = λ c e z u h. also-in (t .left) x z (also-or (t .left z ≡ true) (t .left) x c h
             (λ q. all-left e z (subst (λ (w : ℕ). Tributary next outlet w e z) q u)) (t .above-left c e z u));
         from-below = t .from-below;
         has-below = t .has-below;
-        in-order = λ c e f z w u v i h. also-in x z (t .left) (t .in-order c e f z w u v i h);
+        in-order = λ c e f z w u v i h. also-in (t .left) x z (t .in-order c e f z w u v i h);
       }
 
       module _ (p : ℕ) (s : Dir) (is-next : next x ≡ some (record { cell = p; step = s })) (inner : outlet x ≡ false)
@@ -187,7 +161,7 @@ module _ (next : ℕ → Option (Link Dir)) (outlet : ℕ → Bool) where
         pub leaving-here : Here next outlet leaving p (placeOf (opposite s) + 1)
         leaving-here = record {
           is-entered = t .from-below p (opposite s) x own (here .is-entered);
-          not-left = also-not x p (t .left) (λ q. self q) (go (t .left p) refl);
+          not-left = also-not (t .left) x p (λ q. self q) (go (t .left p) refl);
           before = λ e y u i. earlier e y u i;
           ahead = λ e y u i. later e y u i (t .entered y) refl;
         }
@@ -201,12 +175,12 @@ module _ (next : ℕ → Option (Link Dir)) (outlet : ℕ → Bool) where
             go false e = e
 
             earlier : (e : Dir) (y : ℕ) → Tributary next outlet p e y → placeOf e < placeOf (opposite s) + 1
-                → also x (t .left) y ≡ true
+                → also (t .left) x y ≡ true
             earlier e y u i = elim (decLt (placeOf e) (placeOf (opposite s))) [
-              | yes h ↦ also-in x y (t .left) (t .in-order p e (opposite s) y x u own h (here .is-entered))
-              | no h ↦ subst (λ (w : ℕ). also x (t .left) w ≡ true)
+              | yes h ↦ also-in (t .left) x y (t .in-order p e (opposite s) y x u own h (here .is-entered))
+              | no h ↦ subst (λ (w : ℕ). also (t .left) x w ≡ true)
                   (one-each e x y (subst (λ (d : Dir). Tributary next outlet p d x)
-                  (place-same (opposite s) e (omega arith)) own) u) (also-one x (t .left))
+                  (place-same (opposite s) e (omega arith)) own) u) (also-same (t .left) x x refl)
             ]
 
             later : (e : Dir) (y : ℕ) → Tributary next outlet p e y → placeOf (opposite s) + 1 ≤ placeOf e → (b : Bool)

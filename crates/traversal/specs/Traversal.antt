@@ -2,16 +2,11 @@
 -- where it is. It enters a cell by one of its tributaries before the next, and leaves it when all of them are left.
 -- Assumes nothing.
 use mathlib.Core.Path.{_≡_}
-use mathlib.Core.Bool.{Bool, true, false, _||_}
+use mathlib.Core.Bool.{Bool, true, false}
 use mathlib.Core.Option.{Option, some}
 use Prim.Native.Nat.{ℕ, _≤_, _<_}
-use lib.Dec.{eqb}
 use Rattle.ground.specs.Compass.{Dir, opposite, placeOf}
 use Rattle.ground.specs.Grid.{Link}
-
--- these cells and one more
-abbrev pub also : ℕ → (ℕ → Bool) → ℕ → Bool
-also y f c = eqb c y || f c
 
 module _ (next : ℕ → Option (Link Dir)) (outlet : ℕ → Bool) where
   -- a cell flows in from the neighbour in a direction, and is no outlet
