@@ -7,6 +7,7 @@ use Prim.Native.Nat.{ℕ}
 use lib.ListN.{length}
 use lib.Dec.{eqb}
 use Rattle.lists.specs.Slices.{overlaid}
+use Rattle.ground.specs.Grid.{Grid}
 use Rattle.ground.specs.FlowLengths.{lengthGrid}
 use Rattle.answers.specs.Checks.{firstFailed}
 use Rattle.answers.specs.Entries.{Catchment, outletChecks}
@@ -30,17 +31,17 @@ gridLengths c lent = length (c .accumulation) ∷ length (lent .down-straight) �
 unfoldable pub flowLengthsNumber : Catchment → LengthGrids → ℕ
 flowLengthsNumber c lent = firstFailed (outletChecks c (gridLengths c lent))
 
--- the numbers of each cell over what is lent
-unfoldable pub flowLengthsOver : Catchment → LengthGrids → LengthGrids
-flowLengthsOver c lent = lengthGrids
-    (overlaid (lengthGrid (c .grid) (c .outlets) (λ f. f .down .straight)) (lent .down-straight))
-    (overlaid (lengthGrid (c .grid) (c .outlets) (λ f. f .down .diagonal)) (lent .down-diagonal))
-    (overlaid (lengthGrid (c .grid) (c .outlets) (λ f. f .up .straight)) (lent .up-straight))
-    (overlaid (lengthGrid (c .grid) (c .outlets) (λ f. f .up .diagonal)) (lent .up-diagonal))
+-- the four numbers of each cell over what is lent
+unfoldable pub lengthsOver : Grid → List ℕ → LengthGrids → LengthGrids
+lengthsOver g outlets lent = lengthGrids
+    (overlaid (lengthGrid g outlets (λ f. f .down .straight)) (lent .down-straight))
+    (overlaid (lengthGrid g outlets (λ f. f .down .diagonal)) (lent .down-diagonal))
+    (overlaid (lengthGrid g outlets (λ f. f .up .straight)) (lent .up-straight))
+    (overlaid (lengthGrid g outlets (λ f. f .up .diagonal)) (lent .up-diagonal))
 
 -- on 0 the four grids; on refusal nothing changes
 unfoldable pub flowLengthsLeaves : Catchment → LengthGrids → LengthGrids
-flowLengthsLeaves c lent = cond (eqb (flowLengthsNumber c lent) 0) (flowLengthsOver c lent) lent
+flowLengthsLeaves c lent = cond (eqb (flowLengthsNumber c lent) 0) (lengthsOver (c .grid) (c .outlets) lent) lent
 
 pub record TellsFlowLengths (c : Catchment) (old : LengthGrids) (number : ℕ) (new : LengthGrids) : Type 0 where
   pub answers : number ≡ flowLengthsNumber c old

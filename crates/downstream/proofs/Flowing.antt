@@ -3,7 +3,8 @@
 use mathlib.Core.Path.{_≡_, refl, sym, ap, _∙_, subst}
 use mathlib.Core.List.{List}
 use mathlib.Core.Option.{some}
-use Prim.Native.Nat.{ℕ, _+_, _-_, _*_, _<_}
+use Prim.Native.Nat.{ℕ, _+_, _-_, _*_, _/_, _%_, _<_}
+use native.Mathlib.Nat.{div-add-mod', mod-lt, div-lt-iff-lt-mul}
 use native.Mathlib.Omega.{arith}
 use lib.ListN.{length, getD}
 use lib.Arith.{digits-lt}
@@ -16,14 +17,28 @@ use Rattle.moves.specs.declared.Spot.{Spot}
 use Rattle.moves.specs.declared.Spot.the-variants.{Off, On}
 use Rattle.ground.specs.Compass.{dirOf}
 use Rattle.ground.specs.Grid.{Grid, gridOf}
+use Rattle.moves.specs.Lent.{LentGrid}
 use Rattle.moves.specs.Moves.{leadOf, InReach, Spotted}
 use Rattle.moves.specs.Walks.{Flows, FlowsTo}
 use Rattle.moves.proofs.Codes.{Leads, leads}
 use Rattle.moves.proofs.Spots.{size, inside, spot-inside}
 use Rattle.moves.proofs.Flowing.{move-in-reach, flows-nowhere, flows-off, flows-null, flows-on}
-use Rattle.downstream.specs.Offsets.{placeBy, offsetOf}
+use Rattle.downstream.specs.Offsets.{placeBy, offsetOf, offsetsOf}
 use Rattle.downstream.specs.Flowing.{Numbered, FlowsOn}
 use Rattle.downstream.proofs.Steps.{offset-at, offset-small, number-after}
+
+-- a cell's number split into row and column
+pub numbered : {rows cols at : ℕ} {codes offsets : List ℕ} → LentGrid rows cols codes → 0 < cols → at < rows * cols
+    → offsets ≡ offsetsOf cols → Numbered rows cols codes offsets (at / cols) (at % cols) at
+numbered {cols = cols} {at = at} grid some-cols h e = record {
+  on = record {
+    grid = grid;
+    row-in = div-lt-iff-lt-mul some-cols .1 h;
+    col-in = mod-lt at some-cols;
+  };
+  is-at = sym (div-add-mod' at cols);
+  are-offsets = e;
+}
 
 pub end-to : {row col at : ℕ} → End ≡ To row col at → ⊥
 end-to e = let z : _≡_ {A = ℕ} 0 1 = cc in omega arith

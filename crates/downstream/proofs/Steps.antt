@@ -30,7 +30,7 @@ last-place {k} e se s sw w nw n =
     go true = refl
     go false = refl
 
-place-small : (d : Dir) → placeOf d < 8
+pub place-small : (d : Dir) → placeOf d < 8
 place-small E = omega arith
 place-small SE = omega arith
 place-small S = omega arith

@@ -4,7 +4,6 @@ use mathlib.Core.Path.{_≡_, refl, sym, ap, _∙_}
 use mathlib.Core.Bool.{true}
 use mathlib.Core.List.{List, [], _∷_}
 use Prim.Native.Nat.{ℕ, _*_, _/_, _%_, _<_}
-use native.Mathlib.Nat.{div-add-mod', mod-lt, div-lt-iff-lt-mul}
 use native.Mathlib.Omega.{arith}
 use lib.ListN.{length}
 use lib.Seq.{take-length}
@@ -22,6 +21,7 @@ use Rattle.counting.proofs.Words.{ground-word, null-word}
 use Rattle.downstream.specs.Offsets.{offsetsOf}
 use Rattle.downstream.specs.Flowing.{Numbered}
 use Rattle.filling.specs.Packed.{oneEach}
+use Rattle.downstream.proofs.Flowing.{numbered}
 use Rattle.filling.specs.Filling.{Fillable, upsCut, Flagged, Looked}
 use Rattle.filling.proofs.Cut.{total-uncut}
 use Rattle.filling.proofs.Flags.{cut-network}
@@ -35,15 +35,7 @@ flows-ground g x y to = network g .lands x (record { cell = y; step = to .0 }) (
 -- a cell's number split into row and column
 pub split : {rows cols : ℕ} {codes outlets words steps : List ℕ} {at : ℕ} → Fillable rows cols codes outlets words
     → at < rows * cols → steps ≡ offsetsOf cols → Numbered rows cols codes steps (at / cols) (at % cols) at
-split {cols = cols} {at = at} f h e = record {
-  on = record {
-    grid = f .grid;
-    row-in = div-lt-iff-lt-mul (f .some-cols) .1 h;
-    col-in = mod-lt at (f .some-cols);
-  };
-  is-at = sym (div-add-mod' at cols);
-  are-offsets = e;
-}
+split f h e = numbered (f .grid) (f .some-cols) h e
 
 module _ {rows cols : ℕ} {codes outlets l : List ℕ} (f : Fillable rows cols codes outlets l) where
   abbrev land : Grid

@@ -1,3 +1,4 @@
 pub mod Traversing
 pub mod Moving
 pub mod Turning
+pub mod Tributaries

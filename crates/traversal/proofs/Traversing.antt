@@ -7,9 +7,13 @@ use Prim.Native.Nat.{ℕ, suc, _+_, _≤_, _<_}
 use native.Mathlib.Omega.{arith}
 use native.Mathlib.Decide.{decLt}
 use Rattle.lists.proofs.Counts.{also, also-same, also-or, also-in, also-not}
+use Rattle.lengths.specs.Lengths.{Lengths}
 use Rattle.ground.specs.Compass.{Dir, E, SE, S, SW, W, NW, N, NE, opposite, placeOf}
 use Rattle.ground.specs.Grid.{Link}
+use Rattle.ground.specs.Walk.{At}
+use Rattle.ground.specs.Subwatershed.{firstOutlet}
 use Rattle.ground.proofs.Cells.{opposite-twice}
+use Rattle.ground.proofs.Network.{first-induct}
 use Rattle.moves.specs.Moves.{dirAt}
 use Rattle.traversal.specs.Traversal.{Tributary, Traversal, Here}
 
@@ -38,6 +42,18 @@ module _ (next : ℕ → Option (Link Dir)) (outlet : ℕ → Bool) where
       let v : opposite d ≡ opposite e =
       ap (λ (o : Option (Link Dir)). elim o [ none ↦ d | some h ↦ h .step ]) r in
       (u, sym (opposite-twice d) ∙ ap opposite v ∙ opposite-twice e)
+
+  -- NOTHING is entered yet
+  abbrev pub untouched : Traversal next outlet
+  untouched = record {
+    entered = λ c. false;
+    left = λ c. false;
+    left-entered = λ c h. h;
+    above-left = λ c d y u h. h;
+    from-below = λ c d y u h. h;
+    has-below = λ c h v. absurd (true≢false (sym h));
+    in-order = λ c d e y z u v i h. h;
+  }
 
   -- AN OUTLET is entered that was not
   module _ (t : Traversal next outlet) (o : ℕ) (is-outlet : outlet o ≡ true) (fresh : t .entered o ≡ false) where
@@ -188,3 +204,12 @@ module _ (next : ℕ → Option (Link Dir)) (outlet : ℕ → Bool) where
             later e y u i true f = absurd (true≢false
                 (sym (t .in-order p (opposite s) e x y own u (omega arith) f) ∙ here .not-left))
             later e y u i false f = f
+
+  -- ALL IS LEFT that flows to an outlet, where every outlet is
+  pub left-all : (𝓛 : Lengths Dir) (t : Traversal next outlet) → ((o : ℕ) → outlet o ≡ true → t .left o ≡ true)
+      → (n c : ℕ) (b : At (𝓛 .Len)) → firstOutlet 𝓛 next outlet n c ≡ some b → t .left c ≡ true
+  left-all 𝓛 t all = first-induct 𝓛 next outlet (λ n c b. t .left c ≡ true) (λ n c v. all c v)
+      (λ n c k b v f e ih. t .above-left (k .cell) (opposite (k .step)) c (record {
+        flows = f ∙ ap (λ (d : Dir). some (record { cell = k .cell; step = d })) (sym (opposite-twice (k .step)));
+        no-outlet = v;
+      }) ih)

@@ -61,7 +61,7 @@ module _ (g : Grid) (marks : List ℕ) (x k : ℕ) where
   is-marked {y} e h = ap (ifUnmarked marks) e
       ∙ ap (λ (b : Bool). cond b (some y) none) (le-ltb (getD marks y 0) (2 ^ 31) h)
 
-  is-unmarked : {y : ℕ} → inflowFrom g x (dirAt k) ≡ some y → getD marks y 0 < 2 ^ 31
+  pub is-unmarked : {y : ℕ} → inflowFrom g x (dirAt k) ≡ some y → getD marks y 0 < 2 ^ 31
       → unmarkedFrom g marks x (dirAt k) ≡ some y
   unfolding unmarkedFrom
   is-unmarked {y} e h = ap (ifUnmarked marks) e

@@ -1,0 +1,77 @@
+-- `flowlengths::climb_all` meets its contract. The invariant: the subwatersheds of the first j outlets are left.
+-- Assumes nothing.
+use mathlib.Core.Path.{_≡_, subst}
+use Prim.Native.Nat.{ℕ, _*_, _-_, _≤_}
+use native.Mathlib.Omega.{arith}
+use borrow.Author.Needs.{needs}
+use lib.ListN.{length}
+use Rattle.ground.specs.Grid.{gridOf}
+use Rattle.answers.specs.FlowLengths.{lengthGrids}
+use Rattle.flowlengths.specs.Giving.{GridsKept, Resting}
+use Rattle.flowlengths.proofs.Climbing.{kept-grids, kept-on, kept-climbable}
+use Rattle.flowlengths.proofs.climb_all.Statement.{statement}
+use Rattle.flowlengths.proofs.climb_all.Tie as tie
+
+abbrev Inv-loop : tie.InvT-loop
+Inv-loop rows cols codes outlets ds₀ dd₀ us₀ ud₀ steps j₀ ds dd us ud j = (j ≤ length outlets) × Resting (gridOf rows cols codes) outlets j (lengthGrids ds dd us ud) × GridsKept (rows * cols) (lengthGrids ds₀ dd₀ us₀ ud₀) (lengthGrids ds dd us ud)
+
+abbrev μ-loop : tie.MeasureT-loop
+μ-loop rows cols codes outlets ds₀ dd₀ us₀ ud₀ steps j₀ ds dd us ud j = length outlets - j
+
+offsets-requires : tie.Need-offsets-requires Inv-loop μ-loop
+offsets-requires c κs = c .before .before .before .before .before .before .pre .0 .grid .sides .cols-small
+
+loop-holds : tie.Need-loop-holds Inv-loop μ-loop
+loop-holds c = (search needs, c .before .before .before .before .before .before .before .pre .1, kept-grids)
+
+climb-requires : tie.Need-climb-requires Inv-loop μ-loop
+climb-requires c κs = let s = c .before .before .before .before .before .before .before .before .before .before .before .before .before .before .pre in let l = c .before .before .before .before .before .before .loop .inv in (kept-climbable (s .0) (l .2), ((c .before .before .before .before .before .loop-test .taken, c .before .before .before .before .before .before .before .offsets .ensures), l .1))
+
+add-j : tie.Need-add-j Inv-loop μ-loop
+add-j c = omega (arith, c .before .before .before .before .before .before .before .before .before .before .before .before .before .before .loop-test .taken, c .before .before .before .before .before .before .before .before .before .before .before .before .before .before .before .before .before .before .before .before .before .before .before .pre .0 .few-outlets)
+
+loop-less : tie.Need-loop-less Inv-loop μ-loop
+loop-less c = omega (arith, c .before .before .before .before .before .before .before .before .before .before .before .before .before .before .loop-test .taken)
+
+loop-again : tie.Need-loop-again Inv-loop μ-loop
+loop-again c = (omega (arith, c .before .before .before .before .before .before .before .before .before .before .before .before .before .before .loop-test .taken), c .before .before .before .before .before .before .before .before .climb .ensures .0, kept-on (c .before .before .before .before .before .before .before .before .before .before .before .before .before .before .before .loop .inv .2) (c .before .before .before .before .before .before .before .before .climb .ensures .1))
+
+same-length : tie.Need-same-length Inv-loop μ-loop
+same-length c = c .before .loop .inv .2 .down-straight .same-length
+
+same-length-2 : tie.Need-same-length-2 Inv-loop μ-loop
+same-length-2 c = c .before .loop .inv .2 .down-diagonal .same-length
+
+same-length-3 : tie.Need-same-length-3 Inv-loop μ-loop
+same-length-3 c = c .before .loop .inv .2 .up-straight .same-length
+
+same-length-4 : tie.Need-same-length-4 Inv-loop μ-loop
+same-length-4 c = c .before .loop .inv .2 .up-diagonal .same-length
+
+returns : tie.Need-returns Inv-loop μ-loop
+returns c =
+    let s = c .before .before .before .before .before .before .before .before .before .args in
+    let l = c .before .loop in
+    let e : l .j ≡ length (s .outlets .now) = omega (arith, l .inv .0, c .loop-test .left) in (
+      subst (λ (j : ℕ). Resting (gridOf (s .rows) (s .cols) (s .codes .now)) (s .outlets .now) j
+          (lengthGrids (l .ds) (l .dd) (l .us) (l .ud))) e (l .inv .1),
+      l .inv .2,
+    )
+
+pub climb-all-spec : {M : Type 1} → statement M
+climb-all-spec =
+    tie.close
+    (tie.spec
+    Inv-loop
+    μ-loop
+    offsets-requires
+    loop-holds
+    climb-requires
+    add-j
+    loop-less
+    loop-again
+    same-length
+    same-length-2
+    same-length-3
+    same-length-4
+    returns)

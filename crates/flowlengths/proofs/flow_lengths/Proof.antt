@@ -1,0 +1,51 @@
+-- `flowlengths::flow_lengths` meets its contract: refused by the checks, or the lengths given.
+-- Assumes nothing.
+use mathlib.Core.Path.{refl}
+use mathlib.Core.Logic.{inl}
+use borrow.Author.Needs.{needs}
+use Rattle.answers.specs.Entries.{catchment}
+use Rattle.answers.specs.FlowLengths.{lengthGrids}
+use Rattle.flowlengths.proofs.Results.{refused, climbable, told}
+use Rattle.flowlengths.proofs.flow_lengths.Statement.{statement}
+use Rattle.flowlengths.proofs.flow_lengths.Tie as tie
+
+slice-aggregate-outlets-number : tie.Need-slice-aggregate-outlets-number
+slice-aggregate-outlets-number c = search needs
+
+outlets-number-requires : tie.Need-outlets-number-requires
+outlets-number-requires c κs = inl refl
+
+returns : tie.Need-returns
+returns c = let a = c .before .before .before .before .before .before .before .before .before .before .args in refused (catchment (a .rows) (a .cols) (a .codes .now) (a .accumulation .now) (a .outlets .now)) (lengthGrids (a .down-straight .now) (a .down-diagonal .now) (a .up-straight .now) (a .up-diagonal .now)) (c .before .outlets-number .ensures) (c .if1 .taken)
+
+give-all-requires : tie.Need-give-all-requires
+give-all-requires c κs = let a = c .before .before .before .before .before .before .before .before .before .before .before .before .before .before .args in climbable (catchment (a .rows) (a .cols) (a .codes .now) (a .accumulation .now) (a .outlets .now)) (lengthGrids (a .down-straight .now) (a .down-diagonal .now) (a .up-straight .now) (a .up-diagonal .now)) (c .before .before .before .before .before .outlets-number .ensures) (c .before .before .before .before .if1 .left)
+
+same-length : tie.Need-same-length
+same-length c = search needs
+
+same-length-2 : tie.Need-same-length-2
+same-length-2 c = search needs
+
+same-length-3 : tie.Need-same-length-3
+same-length-3 c = search needs
+
+same-length-4 : tie.Need-same-length-4
+same-length-4 c = search needs
+
+returns-2 : tie.Need-returns-2
+returns-2 c = let a = c .before .before .before .before .before .before .before .before .before .before .before .before .before .before .before .before .before .before .before .before .before .before .before .args in told (catchment (a .rows) (a .cols) (a .codes .now) (a .accumulation .now) (a .outlets .now)) (lengthGrids (a .down-straight .now) (a .down-diagonal .now) (a .up-straight .now) (a .up-diagonal .now)) (c .before .before .before .before .before .before .before .before .before .before .before .before .before .before .outlets-number .ensures) (c .before .before .before .before .before .before .before .before .before .before .before .before .before .if1 .left) (c .before .before .before .before .before .before .before .before .give-all .ensures)
+
+pub flow-lengths-spec : {M : Type 1} → statement M
+flow-lengths-spec =
+    tie.close
+    (tie.spec
+    slice-aggregate-outlets-number
+    outlets-number-requires
+    returns
+    give-all-requires
+    same-length
+    same-length-2
+    same-length-3
+    same-length-4
+    returns-2)
