@@ -44,8 +44,11 @@ use Rattle.traversal.specs.Traversal.{Tributary, Traversal, Here}
 use Rattle.traversal.specs.Turns.{NextTurn, HasNeighbour, HasNext}
 use Rattle.traversal.proofs.Traversing.{begun, begun-here, entering, entering-here, leaving, leaving-here}
 use Rattle.traversal.proofs.Tributaries.{none-ahead, found-beside, found-tributary, found-far, found-next}
-use Rattle.flowlengths.specs.Giving.{Room, GridsKept, Climbable, lengthBelow, lengthAbove, downAt, blanks}
-use Rattle.flowlengths.specs.Giving.{Arrived, Given, Resting, Climbing, Countable, GivesDown, GivesUp}
+use Rattle.lengthgrids.specs.Grids.{Room, GridsKept, lengthBelow, lengthAbove}
+use Rattle.flowlengths.specs.Giving.{Climbable, downAt, blanks}
+use Rattle.lengthgrids.specs.Grids.{Countable, GivesDown, GivesUp}
+use Rattle.flowlengths.specs.Giving.{Arrived, Given, Resting, Climbing}
+use Rattle.lengthgrids.proofs.Kept.{kept-grids, kept-on, kept-room, kept-if}
 use Rattle.flowlengths.proofs.Giving.{one-each, given-begun, given-left, given-up, up-small, given-down}
 
 -- ---- a list of different outlets
@@ -66,31 +69,6 @@ different-from (x ∷ xs) (suc i) h d =
         let m : member x xs ≡ true = ap (λ (y : ℕ). member y xs) (eqb-true x (getD xs i 0) e) ∙ member-at xs i inside in
         absurd (true≢false (sym f ∙ ap not m))
     apart f false e = e
-
--- ---- the grids
-
-pub kept-grids : {n : ℕ} {lent : LengthGrids} → GridsKept n lent lent
-kept-grids = record { down-straight = kept-all; down-diagonal = kept-all; up-straight = kept-all; up-diagonal = kept-all }
-
-pub kept-on : {n : ℕ} {a b c : LengthGrids} → GridsKept n a b → GridsKept n b c → GridsKept n a c
-kept-on k l = record {
-  down-straight = kept-then (k .down-straight) (l .down-straight);
-  down-diagonal = kept-then (k .down-diagonal) (l .down-diagonal);
-  up-straight = kept-then (k .up-straight) (l .up-straight);
-  up-diagonal = kept-then (k .up-diagonal) (l .up-diagonal);
-}
-
-pub kept-room : {n : ℕ} {old new : LengthGrids} → Room n old → GridsKept n old new → Room n new
-kept-room r k = record {
-  down-straight = omega (arith, r .down-straight, k .down-straight .same-length);
-  down-diagonal = omega (arith, r .down-diagonal, k .down-diagonal .same-length);
-  up-straight = omega (arith, r .up-straight, k .up-straight .same-length);
-  up-diagonal = omega (arith, r .up-diagonal, k .up-diagonal .same-length);
-}
-
-kept-if : {n : ℕ} {l m : List ℕ} (b : Bool) (i v : ℕ) → i < n → m ≡ cond b (set l i v) l → Kept n l m
-kept-if true i v h e = rw e (kept-set i v h)
-kept-if false i v h e = rw e kept-all
 
 pub kept-climbable : {rows cols : ℕ} {codes outlets : List ℕ} {old new : LengthGrids} → Climbable rows cols codes outlets old
     → GridsKept (rows * cols) old new → Climbable rows cols codes outlets new

@@ -28,8 +28,9 @@ use Rattle.ground.proofs.FlowLengths.{arrival-outlet, arrival-up, arrival-small
 use Rattle.answers.specs.FlowLengths.{LengthGrids, lengthGrids}
 use Rattle.traversal.specs.Traversal.{Tributary, Traversal, Here}
 use Rattle.traversal.proofs.Traversing.{same-below, untouched, begun, entering, leaving, all-left}
-use Rattle.flowlengths.specs.Giving.{lengthBelow, lengthAbove, downAt, upAt, Arrived, Given, GreatestLeft}
-use Rattle.flowlengths.specs.Giving.{GivesDown, GivesUp}
+use Rattle.lengthgrids.specs.Grids.{lengthBelow, lengthAbove}
+use Rattle.flowlengths.specs.Giving.{downAt, upAt, Arrived, Given, GreatestLeft}
+use Rattle.lengthgrids.specs.Grids.{GivesDown, GivesUp}
 use Rattle.flowlengths.proofs.Greatest.{greatest-none, greatest-other, greatest-longer, greatest-stays}
 use Rattle.flowlengths.proofs.Greatest.{greatest-all}
 

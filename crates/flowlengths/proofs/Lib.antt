@@ -1,6 +1,4 @@
 pub mod Greatest
 pub mod Giving
 pub mod Climbing
-pub mod Marking
-pub mod Compared
 pub mod Results

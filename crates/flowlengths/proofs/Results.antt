@@ -34,33 +34,15 @@ use Rattle.answers.specs.FlowLengths.{flowLengthsNumber, flowLengthsLeaves, Tel
 use Rattle.checks.proofs.Passed.{sized, listed}
 use Rattle.traversal.specs.Traversal.{Tributary, Traversal}
 use Rattle.traversal.proofs.Traversing.{untouched, left-all}
-use Rattle.flowlengths.specs.Giving.{Room, GridsKept, Within, MarkedWith, Prepared, Climbable, downAt, upAt, Given}
+use Rattle.lengthgrids.specs.Grids.{Room, GridsKept, Within, MarkedWith, Prepared}
+use Rattle.flowlengths.specs.Giving.{Climbable, downAt, upAt, Given}
 use Rattle.flowlengths.specs.Giving.{Resting}
 use Rattle.flowlengths.proofs.Greatest.{greatest-zero, greatest-all}
 use Rattle.flowlengths.proofs.Giving.{given-none}
-use Rattle.flowlengths.proofs.Climbing.{kept-on}
+use Rattle.lengthgrids.proofs.Kept.{kept-on}
 
 never : {P : Type 0} {b : At Length} → none ≡ some b → P
 never e = let w : _≡_ {A = ℕ} 0 1 = cc in absurd (omega arith)
-
--- ---- cleared and marked
-module _ {n : ℕ} {outlets ds dd us ud ds′ dd′ us′ ud′ dm : List ℕ} where
-  pub prepared : Cleared n n ds ds′ → Cleared n n dd dd′ → Cleared n n us us′ → Cleared n n ud ud′
-      → MarkedWith n outlets (length outlets) (2 ^ 31) dd′ dm
-      → Prepared n outlets (lengthGrids ds dd us ud) (lengthGrids ds′ dm us′ ud′)
-  prepared a b c d m = record {
-    kept = record {
-      down-straight = a .kept;
-      down-diagonal = kept-then (b .kept) (m .kept);
-      up-straight = c .kept;
-      up-diagonal = d .kept;
-    };
-    down-straight = a .are-zero;
-    down-diagonal = λ x h. m .marks x ∙ ap₂ (λ (t : Bool) (v : ℕ). cond t (2 ^ 31) v)
-        (ap (member x) (take-length outlets)) (b .are-zero x h);
-    up-straight = c .are-zero;
-    up-diagonal = d .are-zero;
-  }
 
 module _ {rows cols : ℕ} {codes outlets : List ℕ} {old : LengthGrids} (can : Climbable rows cols codes outlets old) where
   abbrev land : Grid

@@ -16,10 +16,13 @@ use Rattle.flowlengths.proofs.climb.Statement.{statement}
 use Rattle.flowlengths.proofs.climb.Tie as tie
 
 abbrev Inv-loop : tie.InvT-loop
-Inv-loop rows cols codes outlets steps ds₀ dd₀ us₀ ud₀ place o p₀ ds dd us ud p = Standing rows cols codes outlets steps place (p .row) (p .col) (p .at) (p .turn) (lengthGrids ds₀ dd₀ us₀ ud₀) (lengthGrids ds dd us ud)
+Inv-loop rows cols codes outlets steps ds₀ dd₀ us₀ ud₀ place o p₀ ds dd us ud p =
+    Standing rows cols codes outlets steps place (p .row) (p .col) (p .at) (p .turn) (lengthGrids ds₀ dd₀ us₀ ud₀)
+    (lengthGrids ds dd us ud)
 
 abbrev μ-loop : tie.MeasureT-loop
-μ-loop rows cols codes outlets steps ds₀ dd₀ us₀ ud₀ place o p₀ ds dd us ud p = 2 * blanks (rows * cols) ds dd + (getD ds (p .at) 0 + getD dd (p .at) 0 % 2 ^ 31)
+μ-loop rows cols codes outlets steps ds₀ dd₀ us₀ ud₀ place o p₀ ds dd us ud p =
+    2 * blanks (rows * cols) ds dd + (getD ds (p .at) 0 + getD dd (p .at) 0 % 2 ^ 31)
 
 mul-index-of : tie.Need-mul-index-of Inv-loop μ-loop
 mul-index-of c = search needs
@@ -37,16 +40,28 @@ rem-t19 : tie.Need-rem-t19 Inv-loop μ-loop
 rem-t19 c = c .before .before .before .before .before .before .before .before .pre .0 .some-cols
 
 loop-holds : tie.Need-loop-holds Inv-loop μ-loop
-loop-holds c = let s = c .before .before .before .before .before .before .before .before .pre in standing-begin (s .0) (s .1 .0 .1) (s .1 .0 .0) (c .index-of .ensures .0) (s .1 .1)
+loop-holds c =
+    let s = c .before .before .before .before .before .before .before .before .pre in
+    standing-begin (s .0) (s .1 .0 .1) (s .1 .0 .0) (c .index-of .ensures .0) (s .1 .1)
 
 next-turn-requires : tie.Need-next-turn-requires Inv-loop μ-loop
-next-turn-requires c κs = let s = c .before .before .before .before .before .before .before .before .before .before .pre in let l = c .before .loop in record { on = l .inv .on; has-marks = room-now (s .0) (l .inv) .down-diagonal; turn-small = l .inv .turn-small }
+next-turn-requires c κs =
+    let s = c .before .before .before .before .before .before .before .before .before .before .pre in
+    let l = c .before .loop in
+    record { on = l .inv .on; has-marks = room-now (s .0) (l .inv) .down-diagonal; turn-small = l .inv .turn-small }
 
 mul-if2 : tie.Need-mul-if2 Inv-loop μ-loop
-mul-if2 c = let s = c .before .before .before .before .before .before .before .before .before .before .before .before .pre in let l = c .before .before .before .loop in omega (arith, x-inside (s .0) (l .inv), cells-few (s .0) (l .inv))
+mul-if2 c =
+    let s = c .before .before .before .before .before .before .before .before .before .before .before .before .pre in
+    let l = c .before .before .before .loop in
+    omega (arith, x-inside (s .0) (l .inv), cells-few (s .0) (l .inv))
 
 slice-read-if2 : tie.Need-slice-read-if2 Inv-loop μ-loop
-slice-read-if2 c = let s = c .before .before .before .before .before .before .before .before .before .before .before .before .before .pre in let l = c .before .before .before .before .loop in omega (arith, x-inside (s .0) (l .inv), room-now (s .0) (l .inv) .down-diagonal)
+slice-read-if2 c =
+    let s =
+    c .before .before .before .before .before .before .before .before .before .before .before .before .before .pre in
+    let l = c .before .before .before .before .loop in
+    omega (arith, x-inside (s .0) (l .inv), room-now (s .0) (l .inv) .down-diagonal)
 
 same-length : tie.Need-same-length Inv-loop μ-loop
 same-length c = c .before .before .before .before .before .loop .inv .kept .down-straight .same-length
@@ -61,43 +76,119 @@ same-length-4 : tie.Need-same-length-4 Inv-loop μ-loop
 same-length-4 c = c .before .before .before .before .before .loop .inv .kept .up-diagonal .same-length
 
 returns : tie.Need-returns Inv-loop μ-loop
-returns c = let s = c .before .before .before .before .before .before .before .before .before .before .before .before .before .before .pre in let l = c .before .before .before .before .before .loop in (resting-on (s .0) (l .inv) (c .before .before .before .next-turn .ensures) (c .before .before .if1 .taken) (s .1 .0 .0) (c .if2 .taken), l .inv .kept)
+returns c =
+    let s =
+    c .before .before .before .before .before .before .before .before .before .before .before .before .before .before .pre in
+    let l = c .before .before .before .before .before .loop in
+    (resting-on (s .0) (l .inv) (c .before .before .before .next-turn .ensures) (c .before .before .if1 .taken)
+    (s .1 .0 .0) (c .if2 .taken), l .inv .kept)
 
 below-requires : tie.Need-below-requires Inv-loop μ-loop
-below-requires c κs = let s = c .before .before .before .before .before .before .before .before .before .before .before .before .before .before .pre in let l = c .before .before .before .before .before .loop in (l .inv .on, has-next (s .0) (l .inv) (c .before .before .before .next-turn .ensures) (c .before .before .if1 .taken) (c .if2 .left))
+below-requires c κs =
+    let s =
+    c .before .before .before .before .before .before .before .before .before .before .before .before .before .before .pre in
+    let l = c .before .before .before .before .before .loop in
+    (l .inv .on, has-next (s .0) (l .inv) (c .before .before .before .next-turn .ensures)
+    (c .before .before .if1 .taken) (c .if2 .left))
 
 shared-slice-read-step-of : tie.Need-shared-slice-read-step-of Inv-loop μ-loop
-shared-slice-read-step-of c = let s = c .before .before .before .before .before .before .before .before .before .before .before .before .before .before .before .before .before .before .pre in let l = c .before .before .before .before .before .before .before .before .before .loop in omega (arith, x-inside (s .0) (l .inv), s .0 .grid .has-codes)
+shared-slice-read-step-of c =
+    let s =
+    c .before .before .before .before .before .before .before .before .before .before .before .before .before .before .before .before .before .before .pre in
+    let l = c .before .before .before .before .before .before .before .before .before .loop in
+    omega (arith, x-inside (s .0) (l .inv), s .0 .grid .has-codes)
 
 step-of-requires : tie.Need-step-of-requires Inv-loop μ-loop
 step-of-requires c κs = search needs
 
 give-up-requires : tie.Need-give-up-requires Inv-loop μ-loop
-give-up-requires c κs = let s = c .before .before .before .before .before .before .before .before .before .before .before .before .before .before .before .before .before .before .before .pre in let l = c .before .before .before .before .before .before .before .before .before .before .loop in let w = c .before .before .before .before .below .ensures in (countable-up (s .0) (l .inv) (c .before .before .before .before .before .before .before .before .next-turn .ensures) (c .before .before .before .before .before .before .before .if1 .taken) (c .before .before .before .before .before .if2 .left) (w .flows), diagonal-up (s .0) (l .inv) (c .before .before .before .before .before .before .before .before .next-turn .ensures) (c .before .before .before .before .before .before .before .if1 .taken) (c .before .before .before .before .before .if2 .left) (w .flows))
+give-up-requires c κs =
+    let s =
+    c .before .before .before .before .before .before .before .before .before .before .before .before .before .before .before .before .before .before .before .pre in
+    let l = c .before .before .before .before .before .before .before .before .before .before .loop in
+    let w = c .before .before .before .before .below .ensures in
+    (countable-up (s .0) (l .inv)
+    (c .before .before .before .before .before .before .before .before .next-turn .ensures)
+    (c .before .before .before .before .before .before .before .if1 .taken)
+    (c .before .before .before .before .before .if2 .left) (w .flows), diagonal-up (s .0) (l .inv)
+    (c .before .before .before .before .before .before .before .before .next-turn .ensures)
+    (c .before .before .before .before .before .before .before .if1 .taken)
+    (c .before .before .before .before .before .if2 .left) (w .flows))
 
 loop-less : tie.Need-loop-less Inv-loop μ-loop
-loop-less c = let s = c .before .before .before .before .before .before .before .before .before .before .before .before .before .before .before .before .before .before .before .before .before .before .before .before .pre in let l = c .before .before .before .before .before .before .before .before .before .before .before .before .before .before .before .loop in let w = c .before .before .before .before .before .before .before .before .before .below .ensures in omega (arith, depth-less (s .0) (l .inv) (c .before .before .before .before .before .before .before .before .before .before .before .before .before .next-turn .ensures) (c .before .before .before .before .before .before .before .before .before .before .before .before .if1 .taken) (c .before .before .before .before .before .before .before .before .before .before .if2 .left) (w .flows))
+loop-less c =
+    let s =
+    c .before .before .before .before .before .before .before .before .before .before .before .before .before .before .before .before .before .before .before .before .before .before .before .before .pre in
+    let l =
+    c .before .before .before .before .before .before .before .before .before .before .before .before .before .before .before .loop in
+    let w = c .before .before .before .before .before .before .before .before .before .below .ensures in
+    omega (arith, depth-less (s .0) (l .inv)
+    (c .before .before .before .before .before .before .before .before .before .before .before .before .before .next-turn .ensures) (c .before .before .before .before .before .before .before .before .before .before .before .before .if1 .taken) (c .before .before .before .before .before .before .before .before .before .before .if2 .left) (w .flows))
 
 loop-again : tie.Need-loop-again Inv-loop μ-loop
-loop-again c = let s = c .before .before .before .before .before .before .before .before .before .before .before .before .before .before .before .before .before .before .before .before .before .before .before .before .pre in let l = c .before .before .before .before .before .before .before .before .before .before .before .before .before .before .before .loop in let w = c .before .before .before .before .before .before .before .before .before .below .ensures in standing-down (s .0) (l .inv) (c .before .before .before .before .before .before .before .before .before .before .before .before .before .next-turn .ensures) (c .before .before .before .before .before .before .before .before .before .before .before .before .if1 .taken) (c .before .before .before .before .before .before .before .before .before .before .if2 .left) (w .flows) (w .on) (w .is-turn) (c .before .before .before .before .before .step-of .ensures) (c .before .before .before .before .give-up .ensures)
+loop-again c =
+    let s =
+    c .before .before .before .before .before .before .before .before .before .before .before .before .before .before .before .before .before .before .before .before .before .before .before .before .pre in
+    let l =
+    c .before .before .before .before .before .before .before .before .before .before .before .before .before .before .before .loop in
+    let w = c .before .before .before .before .before .before .before .before .before .below .ensures in
+    standing-down (s .0) (l .inv)
+    (c .before .before .before .before .before .before .before .before .before .before .before .before .before .next-turn .ensures) (c .before .before .before .before .before .before .before .before .before .before .before .before .if1 .taken) (c .before .before .before .before .before .before .before .before .before .before .if2 .left) (w .flows) (w .on) (w .is-turn) (c .before .before .before .before .before .step-of .ensures) (c .before .before .before .before .give-up .ensures)
 
 moved-requires : tie.Need-moved-requires Inv-loop μ-loop
-moved-requires c κs = let s = c .before .before .before .before .before .before .before .before .before .before .before .before .pre in let l = c .before .before .before .loop in (l .inv .on, (c .if1 .left, has-neighbour (s .0) (l .inv) (c .before .next-turn .ensures) (c .if1 .left)))
+moved-requires c κs =
+    let s = c .before .before .before .before .before .before .before .before .before .before .before .before .pre in
+    let l = c .before .before .before .loop in
+    (l .inv .on, (c .if1 .left, has-neighbour (s .0) (l .inv) (c .before .next-turn .ensures) (c .if1 .left)))
 
 shared-slice-read-step-of-2 : tie.Need-shared-slice-read-step-of-2 Inv-loop μ-loop
-shared-slice-read-step-of-2 c = let s = c .before .before .before .before .before .before .before .before .before .before .before .before .before .before .before .before .pre in let l = c .before .before .before .before .before .before .before .loop in omega (arith, s .0 .grid .has-codes, at-inside (c .before .before .before .moved .ensures .on))
+shared-slice-read-step-of-2 c =
+    let s =
+    c .before .before .before .before .before .before .before .before .before .before .before .before .before .before .before .before .pre in
+    let l = c .before .before .before .before .before .before .before .loop in
+    omega (arith, s .0 .grid .has-codes, at-inside (c .before .before .before .moved .ensures .on))
 
 step-of-requires-2 : tie.Need-step-of-requires-2 Inv-loop μ-loop
 step-of-requires-2 c κs = search needs
 
 give-down-requires : tie.Need-give-down-requires Inv-loop μ-loop
-give-down-requires c κs = let s = c .before .before .before .before .before .before .before .before .before .before .before .before .before .before .before .before .before .pre in let l = c .before .before .before .before .before .before .before .before .loop in let w = c .before .before .before .before .moved .ensures in countable-down (s .0) (l .inv) (c .before .before .before .before .before .before .next-turn .ensures) (c .before .before .before .before .before .if1 .left) (w .is-there)
+give-down-requires c κs =
+    let s =
+    c .before .before .before .before .before .before .before .before .before .before .before .before .before .before .before .before .before .pre in
+    let l = c .before .before .before .before .before .before .before .before .loop in
+    let w = c .before .before .before .before .moved .ensures in
+    countable-down (s .0) (l .inv) (c .before .before .before .before .before .before .next-turn .ensures)
+    (c .before .before .before .before .before .if1 .left) (w .is-there)
 
 loop-less-2 : tie.Need-loop-less-2 Inv-loop μ-loop
-loop-less-2 c = let s = c .before .before .before .before .before .before .before .before .before .before .before .before .before .before .before .before .before .before .before .before .before .before .pre in let l = c .before .before .before .before .before .before .before .before .before .before .before .before .before .loop in let w = c .before .before .before .before .before .before .before .before .before .moved .ensures in omega (arith, fewer-blanks (s .0) (l .inv) (c .before .before .before .before .before .before .before .before .before .before .before .next-turn .ensures) (c .before .before .before .before .before .before .before .before .before .before .if1 .left) (w .is-there) (c .before .before .before .before .before .step-of2 .ensures) (c .before .before .before .before .give-down .ensures), depth-more (s .0) (l .inv) (c .before .before .before .before .before .before .before .before .before .before .before .next-turn .ensures) (c .before .before .before .before .before .before .before .before .before .before .if1 .left) (w .is-there) (c .before .before .before .before .before .step-of2 .ensures) (c .before .before .before .before .give-down .ensures))
+loop-less-2 c =
+    let s =
+    c .before .before .before .before .before .before .before .before .before .before .before .before .before .before .before .before .before .before .before .before .before .before .pre in
+    let l =
+    c .before .before .before .before .before .before .before .before .before .before .before .before .before .loop in
+    let w = c .before .before .before .before .before .before .before .before .before .moved .ensures in
+    omega (arith, fewer-blanks (s .0) (l .inv)
+    (c .before .before .before .before .before .before .before .before .before .before .before .next-turn .ensures)
+    (c .before .before .before .before .before .before .before .before .before .before .if1 .left) (w .is-there)
+    (c .before .before .before .before .before .step-of2 .ensures)
+    (c .before .before .before .before .give-down .ensures), depth-more (s .0) (l .inv)
+    (c .before .before .before .before .before .before .before .before .before .before .before .next-turn .ensures)
+    (c .before .before .before .before .before .before .before .before .before .before .if1 .left) (w .is-there)
+    (c .before .before .before .before .before .step-of2 .ensures)
+    (c .before .before .before .before .give-down .ensures))
 
 loop-again-2 : tie.Need-loop-again-2 Inv-loop μ-loop
-loop-again-2 c = let s = c .before .before .before .before .before .before .before .before .before .before .before .before .before .before .before .before .before .before .before .before .before .before .pre in let l = c .before .before .before .before .before .before .before .before .before .before .before .before .before .loop in let w = c .before .before .before .before .before .before .before .before .before .moved .ensures in standing-up (s .0) (l .inv) (c .before .before .before .before .before .before .before .before .before .before .before .next-turn .ensures) (c .before .before .before .before .before .before .before .before .before .before .if1 .left) (w .is-there) (c .before .before .before .before .before .step-of2 .ensures) (c .before .before .before .before .give-down .ensures) (w .on) (w .is-turn)
+loop-again-2 c =
+    let s =
+    c .before .before .before .before .before .before .before .before .before .before .before .before .before .before .before .before .before .before .before .before .before .before .pre in
+    let l =
+    c .before .before .before .before .before .before .before .before .before .before .before .before .before .loop in
+    let w = c .before .before .before .before .before .before .before .before .before .moved .ensures in
+    standing-up (s .0) (l .inv)
+    (c .before .before .before .before .before .before .before .before .before .before .before .next-turn .ensures)
+    (c .before .before .before .before .before .before .before .before .before .before .if1 .left) (w .is-there)
+    (c .before .before .before .before .before .step-of2 .ensures)
+    (c .before .before .before .before .give-down .ensures) (w .on) (w .is-turn)
 
 pub climb-spec : {M : Type 1} → statement M
 climb-spec =

@@ -7,13 +7,17 @@ use borrow.Author.Needs.{needs}
 use lib.ListN.{length}
 use Rattle.ground.specs.Grid.{gridOf}
 use Rattle.answers.specs.FlowLengths.{lengthGrids}
-use Rattle.flowlengths.specs.Giving.{GridsKept, Resting}
-use Rattle.flowlengths.proofs.Climbing.{kept-grids, kept-on, kept-climbable}
+use Rattle.lengthgrids.specs.Grids.{GridsKept}
+use Rattle.flowlengths.specs.Giving.{Resting}
+use Rattle.lengthgrids.proofs.Kept.{kept-grids, kept-on}
+use Rattle.flowlengths.proofs.Climbing.{kept-climbable}
 use Rattle.flowlengths.proofs.climb_all.Statement.{statement}
 use Rattle.flowlengths.proofs.climb_all.Tie as tie
 
 abbrev Inv-loop : tie.InvT-loop
-Inv-loop rows cols codes outlets ds₀ dd₀ us₀ ud₀ steps j₀ ds dd us ud j = (j ≤ length outlets) × Resting (gridOf rows cols codes) outlets j (lengthGrids ds dd us ud) × GridsKept (rows * cols) (lengthGrids ds₀ dd₀ us₀ ud₀) (lengthGrids ds dd us ud)
+Inv-loop rows cols codes outlets ds₀ dd₀ us₀ ud₀ steps j₀ ds dd us ud j =
+    (j ≤ length outlets) × Resting (gridOf rows cols codes) outlets j (lengthGrids ds dd us ud) × GridsKept
+    (rows * cols) (lengthGrids ds₀ dd₀ us₀ ud₀) (lengthGrids ds dd us ud)
 
 abbrev μ-loop : tie.MeasureT-loop
 μ-loop rows cols codes outlets ds₀ dd₀ us₀ ud₀ steps j₀ ds dd us ud j = length outlets - j
@@ -25,16 +29,27 @@ loop-holds : tie.Need-loop-holds Inv-loop μ-loop
 loop-holds c = (search needs, c .before .before .before .before .before .before .before .pre .1, kept-grids)
 
 climb-requires : tie.Need-climb-requires Inv-loop μ-loop
-climb-requires c κs = let s = c .before .before .before .before .before .before .before .before .before .before .before .before .before .before .pre in let l = c .before .before .before .before .before .before .loop .inv in (kept-climbable (s .0) (l .2), ((c .before .before .before .before .before .loop-test .taken, c .before .before .before .before .before .before .before .offsets .ensures), l .1))
+climb-requires c κs =
+    let s =
+    c .before .before .before .before .before .before .before .before .before .before .before .before .before .before .pre in
+    let l = c .before .before .before .before .before .before .loop .inv in
+    (kept-climbable (s .0) (l .2), ((c .before .before .before .before .before .loop-test .taken,
+    c .before .before .before .before .before .before .before .offsets .ensures), l .1))
 
 add-j : tie.Need-add-j Inv-loop μ-loop
-add-j c = omega (arith, c .before .before .before .before .before .before .before .before .before .before .before .before .before .before .loop-test .taken, c .before .before .before .before .before .before .before .before .before .before .before .before .before .before .before .before .before .before .before .before .before .before .before .pre .0 .few-outlets)
+add-j c =
+    omega (arith,
+    c .before .before .before .before .before .before .before .before .before .before .before .before .before .before .loop-test .taken, c .before .before .before .before .before .before .before .before .before .before .before .before .before .before .before .before .before .before .before .before .before .before .before .pre .0 .few-outlets)
 
 loop-less : tie.Need-loop-less Inv-loop μ-loop
-loop-less c = omega (arith, c .before .before .before .before .before .before .before .before .before .before .before .before .before .before .loop-test .taken)
+loop-less c =
+    omega (arith,
+    c .before .before .before .before .before .before .before .before .before .before .before .before .before .before .loop-test .taken)
 
 loop-again : tie.Need-loop-again Inv-loop μ-loop
-loop-again c = (omega (arith, c .before .before .before .before .before .before .before .before .before .before .before .before .before .before .loop-test .taken), c .before .before .before .before .before .before .before .before .climb .ensures .0, kept-on (c .before .before .before .before .before .before .before .before .before .before .before .before .before .before .before .loop .inv .2) (c .before .before .before .before .before .before .before .before .climb .ensures .1))
+loop-again c =
+    (omega (arith,
+    c .before .before .before .before .before .before .before .before .before .before .before .before .before .before .loop-test .taken), c .before .before .before .before .before .before .before .before .climb .ensures .0, kept-on (c .before .before .before .before .before .before .before .before .before .before .before .before .before .before .before .loop .inv .2) (c .before .before .before .before .before .before .before .before .climb .ensures .1))
 
 same-length : tie.Need-same-length Inv-loop μ-loop
 same-length c = c .before .loop .inv .2 .down-straight .same-length

@@ -16,10 +16,20 @@ outlets-number-requires : tie.Need-outlets-number-requires
 outlets-number-requires c κs = inl refl
 
 returns : tie.Need-returns
-returns c = let a = c .before .before .before .before .before .before .before .before .before .before .args in refused (catchment (a .rows) (a .cols) (a .codes .now) (a .accumulation .now) (a .outlets .now)) (lengthGrids (a .down-straight .now) (a .down-diagonal .now) (a .up-straight .now) (a .up-diagonal .now)) (c .before .outlets-number .ensures) (c .if1 .taken)
+returns c =
+    let a = c .before .before .before .before .before .before .before .before .before .before .args in
+    refused (catchment (a .rows) (a .cols) (a .codes .now) (a .accumulation .now) (a .outlets .now))
+    (lengthGrids (a .down-straight .now) (a .down-diagonal .now) (a .up-straight .now) (a .up-diagonal .now))
+    (c .before .outlets-number .ensures) (c .if1 .taken)
 
 give-all-requires : tie.Need-give-all-requires
-give-all-requires c κs = let a = c .before .before .before .before .before .before .before .before .before .before .before .before .before .before .args in climbable (catchment (a .rows) (a .cols) (a .codes .now) (a .accumulation .now) (a .outlets .now)) (lengthGrids (a .down-straight .now) (a .down-diagonal .now) (a .up-straight .now) (a .up-diagonal .now)) (c .before .before .before .before .before .outlets-number .ensures) (c .before .before .before .before .if1 .left)
+give-all-requires c κs =
+    let a =
+    c .before .before .before .before .before .before .before .before .before .before .before .before .before .before .args in
+    climbable (catchment (a .rows) (a .cols) (a .codes .now) (a .accumulation .now) (a .outlets .now))
+    (lengthGrids (a .down-straight .now) (a .down-diagonal .now) (a .up-straight .now) (a .up-diagonal .now))
+    (c .before .before .before .before .before .outlets-number .ensures)
+    (c .before .before .before .before .if1 .left)
 
 same-length : tie.Need-same-length
 same-length c = search needs
@@ -34,7 +44,12 @@ same-length-4 : tie.Need-same-length-4
 same-length-4 c = search needs
 
 returns-2 : tie.Need-returns-2
-returns-2 c = let a = c .before .before .before .before .before .before .before .before .before .before .before .before .before .before .before .before .before .before .before .before .before .before .before .args in told (catchment (a .rows) (a .cols) (a .codes .now) (a .accumulation .now) (a .outlets .now)) (lengthGrids (a .down-straight .now) (a .down-diagonal .now) (a .up-straight .now) (a .up-diagonal .now)) (c .before .before .before .before .before .before .before .before .before .before .before .before .before .before .outlets-number .ensures) (c .before .before .before .before .before .before .before .before .before .before .before .before .before .if1 .left) (c .before .before .before .before .before .before .before .before .give-all .ensures)
+returns-2 c =
+    let a =
+    c .before .before .before .before .before .before .before .before .before .before .before .before .before .before .before .before .before .before .before .before .before .before .before .args in
+    told (catchment (a .rows) (a .cols) (a .codes .now) (a .accumulation .now) (a .outlets .now))
+    (lengthGrids (a .down-straight .now) (a .down-diagonal .now) (a .up-straight .now) (a .up-diagonal .now))
+    (c .before .before .before .before .before .before .before .before .before .before .before .before .before .before .outlets-number .ensures) (c .before .before .before .before .before .before .before .before .before .before .before .before .before .if1 .left) (c .before .before .before .before .before .before .before .before .give-all .ensures)
 
 pub flow-lengths-spec : {M : Type 1} → statement M
 flow-lengths-spec =

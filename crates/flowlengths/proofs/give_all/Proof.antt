@@ -2,7 +2,8 @@
 -- Assumes nothing.
 use native.Mathlib.Omega.{arith}
 use borrow.Author.Needs.{needs}
-use Rattle.flowlengths.proofs.Climbing.{kept-on, kept-room, kept-climbable}
+use Rattle.lengthgrids.proofs.Kept.{kept-on, kept-room}
+use Rattle.flowlengths.proofs.Climbing.{kept-climbable}
 use Rattle.flowlengths.proofs.Results.{outlets-within, resting-none, lengths-over}
 use Rattle.flowlengths.proofs.give_all.Statement.{statement}
 use Rattle.flowlengths.proofs.give_all.Tie as tie
@@ -11,13 +12,26 @@ mul-n : tie.Need-mul-n
 mul-n c = search needs
 
 prepare-requires : tie.Need-prepare-requires
-prepare-requires c κs = let s = c .before .before .before .before .before .before .before .before .before .before .pre in (s .room, outlets-within s)
+prepare-requires c κs =
+    let s = c .before .before .before .before .before .before .before .before .before .before .pre in
+    (s .room, outlets-within s)
 
 climb-all-requires : tie.Need-climb-all-requires
-climb-all-requires c κs = let s = c .before .before .before .before .before .before .before .before .before .before .before .before .before .before .before .before .before .before .before .before .before .before .before .pre in let p = c .before .before .before .before .before .before .before .before .before .before .before .before .prepare .ensures in (kept-climbable s (p .kept), resting-none s p)
+climb-all-requires c κs =
+    let s =
+    c .before .before .before .before .before .before .before .before .before .before .before .before .before .before .before .before .before .before .before .before .before .before .before .pre in
+    let p =
+    c .before .before .before .before .before .before .before .before .before .before .before .before .prepare .ensures in
+    (kept-climbable s (p .kept), resting-none s p)
 
 mark-requires : tie.Need-mark-requires
-mark-requires c κs = let s = c .before .before .before .before .before .before .before .before .before .before .before .before .before .before .before .before .before .before .before .before .before .before .before .before .before .before .before .before .before .before .before .before .before .pre in let p = c .before .before .before .before .before .before .before .before .before .before .before .before .before .before .before .before .before .before .before .before .before .before .prepare .ensures in (kept-room (s .room) (kept-on (p .kept) (c .before .before .before .before .before .before .before .before .before .climb-all .ensures .1)) .down-diagonal, outlets-within s)
+mark-requires c κs =
+    let s =
+    c .before .before .before .before .before .before .before .before .before .before .before .before .before .before .before .before .before .before .before .before .before .before .before .before .before .before .before .before .before .before .before .before .before .pre in
+    let p =
+    c .before .before .before .before .before .before .before .before .before .before .before .before .before .before .before .before .before .before .before .before .before .before .prepare .ensures in
+    (kept-room (s .room) (kept-on (p .kept)
+    (c .before .before .before .before .before .before .before .before .before .climb-all .ensures .1)) .down-diagonal, outlets-within s)
 
 same-length : tie.Need-same-length
 same-length c = search needs
@@ -32,7 +46,13 @@ same-length-4 : tie.Need-same-length-4
 same-length-4 c = search needs
 
 returns : tie.Need-returns
-returns c = let s = c .before .before .before .before .before .before .before .before .before .before .before .before .before .before .before .before .before .before .before .before .before .before .before .before .before .before .before .before .before .before .before .before .before .before .before .before .pre in let p = c .before .before .before .before .before .before .before .before .before .before .before .before .before .before .before .before .before .before .before .before .before .before .before .before .before .prepare .ensures in lengths-over s (c .before .before .before .before .before .before .before .before .before .before .before .before .climb-all .ensures .0) (c .before .before .mark .ensures) (kept-on (p .kept) (c .before .before .before .before .before .before .before .before .before .before .before .before .climb-all .ensures .1))
+returns c =
+    let s =
+    c .before .before .before .before .before .before .before .before .before .before .before .before .before .before .before .before .before .before .before .before .before .before .before .before .before .before .before .before .before .before .before .before .before .before .before .before .pre in
+    let p =
+    c .before .before .before .before .before .before .before .before .before .before .before .before .before .before .before .before .before .before .before .before .before .before .before .before .before .prepare .ensures in
+    lengths-over s
+    (c .before .before .before .before .before .before .before .before .before .before .before .before .climb-all .ensures .0) (c .before .before .mark .ensures) (kept-on (p .kept) (c .before .before .before .before .before .before .before .before .before .before .before .before .climb-all .ensures .1))
 
 pub give-all-spec : {M : Type 1} → statement M
 give-all-spec =

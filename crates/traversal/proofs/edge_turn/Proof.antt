@@ -38,25 +38,40 @@ enum-known-r : tie.Need-enum-known-r Inv-loop μ-loop
 enum-known-r c = search needs
 
 mul-y : tie.Need-mul-y Inv-loop μ-loop
-mul-y c = omega (arith, inside c, cells-small (c .before .before .before .before .before .before .before .before .pre .on))
+mul-y c =
+    omega (arith, inside c, cells-small (c .before .before .before .before .before .before .before .before .pre .on))
 
 add-y : tie.Need-add-y Inv-loop μ-loop
-add-y c = omega (arith, inside c, cells-small (c .before .before .before .before .before .before .before .before .pre .on))
+add-y c =
+    omega (arith, inside c, cells-small (c .before .before .before .before .before .before .before .before .pre .on))
 
 mul-if1 : tie.Need-mul-if1 Inv-loop μ-loop
-mul-if1 c = omega (arith, inside c, cells-small (c .before .before .before .before .before .before .before .before .pre .on))
+mul-if1 c =
+    omega (arith, inside c, cells-small (c .before .before .before .before .before .before .before .before .pre .on))
 
 shared-slice-read-if1 : tie.Need-shared-slice-read-if1 Inv-loop μ-loop
-shared-slice-read-if1 c = omega (arith, inside (c .before), c .before .before .before .before .before .before .before .before .before .pre .has-marks)
+shared-slice-read-if1 c =
+    omega (arith, inside (c .before),
+    c .before .before .before .before .before .before .before .before .before .pre .has-marks)
 
 returns : tie.Need-returns Inv-loop μ-loop
-returns c = spot-found (c .before .before .before .before .before .before .before .before .before .before .pre .on .is-at) (c .before .before .before .before .before .before .loop-test .taken) (c .before .before .before .before .before .inflow-from .ensures) (c .before .before .before .before .before .before .before .loop .inv) (c .before .before .before .r .given .1) (c .if1 .taken)
+returns c =
+    spot-found (c .before .before .before .before .before .before .before .before .before .before .pre .on .is-at)
+    (c .before .before .before .before .before .before .loop-test .taken)
+    (c .before .before .before .before .before .inflow-from .ensures)
+    (c .before .before .before .before .before .before .before .loop .inv) (c .before .before .before .r .given .1)
+    (c .if1 .taken)
 
 loop-less : tie.Need-loop-less Inv-loop μ-loop
 loop-less c = search needs
 
 loop-again : tie.Need-loop-again Inv-loop μ-loop
-loop-again c = spot-marked (c .before .before .before .before .before .before .before .before .before .before .pre .on .is-at) (c .before .before .before .before .before .before .loop-test .taken) (c .before .before .before .before .before .inflow-from .ensures) (c .before .before .before .before .before .before .before .loop .inv) (c .before .before .before .r .given .1) (c .if1 .left)
+loop-again c =
+    spot-marked (c .before .before .before .before .before .before .before .before .before .before .pre .on .is-at)
+    (c .before .before .before .before .before .before .loop-test .taken)
+    (c .before .before .before .before .before .inflow-from .ensures)
+    (c .before .before .before .before .before .before .before .loop .inv) (c .before .before .before .r .given .1)
+    (c .if1 .left)
 
 enum-told : tie.Need-enum-told Inv-loop μ-loop
 enum-told c = search needs
@@ -65,7 +80,10 @@ loop-less-2 : tie.Need-loop-less-2 Inv-loop μ-loop
 loop-less-2 c = search needs
 
 loop-again-2 : tie.Need-loop-again-2 Inv-loop μ-loop
-loop-again-2 c = spot-away (c .before .before .before .before .before .before .before .pre .on .is-at) (c .before .before .before .loop-test .taken) (c .before .before .inflow-from .ensures) (c .before .before .before .before .loop .inv) (c .enum-told .given .1)
+loop-again-2 c =
+    spot-away (c .before .before .before .before .before .before .before .pre .on .is-at)
+    (c .before .before .before .loop-test .taken) (c .before .before .inflow-from .ensures)
+    (c .before .before .before .before .loop .inv) (c .enum-told .given .1)
 
 returns-2 : tie.Need-returns-2 Inv-loop μ-loop
 returns-2 c = turn-over (c .before .loop .inv) (c .loop-test .left)

@@ -13,16 +13,25 @@ neighbour-at-requires : tie.Need-neighbour-at-requires
 neighbour-at-requires c κs = search needs
 
 add-row : tie.Need-add-row
-add-row c = let s = c .before .before .before .before in omega (arith, row-fits (s .pre .0) (s .pre .1 .0) (s .pre .1 .1) (c .before .before .neighbour-at .ensures))
+add-row c =
+    let s = c .before .before .before .before in
+    omega (arith, row-fits (s .pre .0) (s .pre .1 .0) (s .pre .1 .1) (c .before .before .neighbour-at .ensures))
 
 sub-row : tie.Need-sub-row
-sub-row c = let s = c .before .before .before .before in row-some (s .pre .0) (s .pre .1 .0) (s .pre .1 .1) (c .before .before .neighbour-at .ensures)
+sub-row c =
+    let s = c .before .before .before .before in
+    row-some (s .pre .0) (s .pre .1 .0) (s .pre .1 .1) (c .before .before .neighbour-at .ensures)
 
 add-col : tie.Need-add-col
-add-col c = let s = c .before .before .before .before .before .before in omega (arith, col-fits (s .pre .0) (s .pre .1 .0) (s .pre .1 .1) (c .before .before .before .before .neighbour-at .ensures))
+add-col c =
+    let s = c .before .before .before .before .before .before in
+    omega (arith, col-fits (s .pre .0) (s .pre .1 .0) (s .pre .1 .1)
+    (c .before .before .before .before .neighbour-at .ensures))
 
 sub-col : tie.Need-sub-col
-sub-col c = let s = c .before .before .before .before .before .before in col-some (s .pre .0) (s .pre .1 .0) (s .pre .1 .1) (c .before .before .before .before .neighbour-at .ensures)
+sub-col c =
+    let s = c .before .before .before .before .before .before in
+    col-some (s .pre .0) (s .pre .1 .0) (s .pre .1 .1) (c .before .before .before .before .neighbour-at .ensures)
 
 mul-at : tie.Need-mul-at
 mul-at c = search needs
@@ -31,13 +40,17 @@ element-copy-out-at : tie.Need-element-copy-out-at
 element-copy-out-at c = search needs
 
 add-at : tie.Need-add-at
-add-at c = let s = c .before .before .before .before .before .before .before .before in omega (arith, number-fits (s .pre .0) (s .pre .1 .0) (s .pre .1 .1 .1))
+add-at c =
+    let s = c .before .before .before .before .before .before .before .before in
+    omega (arith, number-fits (s .pre .0) (s .pre .1 .0) (s .pre .1 .1 .1))
 
 add-at-2 : tie.Need-add-at-2
 add-at-2 c = search needs
 
 sub-at : tie.Need-sub-at
-sub-at c = let s = c .before .before .before .before .before .before .before .before in omega (arith, number-is (s .pre .0) (s .pre .1 .0) (s .pre .1 .1 .1))
+sub-at c =
+    let s = c .before .before .before .before .before .before .before .before in
+    omega (arith, number-is (s .pre .0) (s .pre .1 .0) (s .pre .1 .1 .1))
 
 returns : tie.Need-returns
 returns c =

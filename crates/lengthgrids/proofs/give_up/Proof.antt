@@ -1,11 +1,11 @@
--- `flowlengths::give_up` meets its contract: the counts are stored where the comparison says shorter.
+-- `lengthgrids::give_up` meets its contract: the counts are stored where the comparison says shorter.
 -- Assumes nothing.
 use mathlib.Core.Path.{ap}
 use borrow.Author.Needs.{needs}
 use Rattle.lengths.specs.Rule.{saysShorter}
-use Rattle.flowlengths.proofs.Compared.{gives-longer, gives-nothing}
-use Rattle.flowlengths.proofs.give_up.Statement.{statement}
-use Rattle.flowlengths.proofs.give_up.Tie as tie
+use Rattle.lengthgrids.proofs.Compared.{gives-longer, gives-nothing}
+use Rattle.lengthgrids.proofs.give_up.Statement.{statement}
+use Rattle.lengthgrids.proofs.give_up.Tie as tie
 
 mul-t9 : tie.Need-mul-t9
 mul-t9 c = search needs
@@ -56,13 +56,17 @@ enum-told-2 : tie.Need-enum-told-2
 enum-told-2 c = search needs
 
 returns : tie.Need-returns
-returns c = gives-nothing _ _ _ _ _ (c .before .before .before .before .before .plus .ensures) (c .before .before .compare .ensures) (ap saysShorter (c .enum-told2 .given .1))
+returns c =
+    gives-nothing _ _ _ _ _ (c .before .before .before .before .before .plus .ensures)
+    (c .before .before .compare .ensures) (ap saysShorter (c .enum-told2 .given .1))
 
 enum-told-3 : tie.Need-enum-told-3
 enum-told-3 c = search needs
 
 returns-2 : tie.Need-returns-2
-returns-2 c = gives-nothing _ _ _ _ _ (c .before .before .before .before .before .plus .ensures) (c .before .before .compare .ensures) (ap saysShorter (c .enum-told3 .given .1))
+returns-2 c =
+    gives-nothing _ _ _ _ _ (c .before .before .before .before .before .plus .ensures)
+    (c .before .before .compare .ensures) (ap saysShorter (c .enum-told3 .given .1))
 
 same-length : tie.Need-same-length
 same-length c = search needs
@@ -71,7 +75,9 @@ same-length-2 : tie.Need-same-length-2
 same-length-2 c = search needs
 
 returns-3 : tie.Need-returns-3
-returns-3 c = gives-longer _ _ _ _ _ (c .before .before .before .before .before .plus .ensures) (c .before .before .compare .ensures) (c .enum-told .given .1)
+returns-3 c =
+    gives-longer _ _ _ _ _ (c .before .before .before .before .before .plus .ensures)
+    (c .before .before .compare .ensures) (c .enum-told .given .1)
 
 pub give-up-spec : {M : Type 1} → statement M
 give-up-spec =

@@ -1,9 +1,9 @@
--- `flowlengths::prepare` meets its contract: four grids are cleared, and one is marked.
+-- `lengthgrids::prepare` meets its contract: four grids are cleared, and one is marked.
 -- Assumes nothing.
 use borrow.Author.Needs.{needs}
-use Rattle.flowlengths.proofs.Results.{prepared}
-use Rattle.flowlengths.proofs.prepare.Statement.{statement}
-use Rattle.flowlengths.proofs.prepare.Tie as tie
+use Rattle.lengthgrids.proofs.Marking.{prepared}
+use Rattle.lengthgrids.proofs.prepare.Statement.{statement}
+use Rattle.lengthgrids.proofs.prepare.Tie as tie
 
 clear-requires : tie.Need-clear-requires
 clear-requires c κs = search needs
@@ -33,7 +33,9 @@ same-length-4 : tie.Need-same-length-4
 same-length-4 c = search needs
 
 returns : tie.Need-returns
-returns c = prepared (c .before .before .before .before .before .before .before .before .before .before .before .before .before .before .before .before .before .before .clear .ensures) (c .before .before .before .before .before .before .before .before .before .before .before .before .before .before .clear2 .ensures) (c .before .before .before .before .before .before .before .before .before .before .clear3 .ensures) (c .before .before .before .before .before .before .clear4 .ensures) (c .before .before .mark .ensures)
+returns c =
+    prepared
+    (c .before .before .before .before .before .before .before .before .before .before .before .before .before .before .before .before .before .before .clear .ensures) (c .before .before .before .before .before .before .before .before .before .before .before .before .before .before .clear2 .ensures) (c .before .before .before .before .before .before .before .before .before .before .clear3 .ensures) (c .before .before .before .before .before .before .clear4 .ensures) (c .before .before .mark .ensures)
 
 pub prepare-spec : {M : Type 1} → statement M
 prepare-spec =

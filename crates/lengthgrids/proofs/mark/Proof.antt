@@ -1,14 +1,14 @@
--- `flowlengths::mark` meets its contract. The invariant: the first j outlets are marked.
+-- `lengthgrids::mark` meets its contract. The invariant: the first j outlets are marked.
 -- Assumes nothing.
 use mathlib.Core.Path.{_≡_, subst}
 use Prim.Native.Nat.{ℕ, _-_, _≤_}
 use native.Mathlib.Omega.{arith}
 use borrow.Author.Needs.{needs}
 use lib.ListN.{length}
-use Rattle.flowlengths.specs.Giving.{MarkedWith}
-use Rattle.flowlengths.proofs.Marking.{marked-none, marked-more}
-use Rattle.flowlengths.proofs.mark.Statement.{statement}
-use Rattle.flowlengths.proofs.mark.Tie as tie
+use Rattle.lengthgrids.specs.Grids.{MarkedWith}
+use Rattle.lengthgrids.proofs.Marking.{marked-none, marked-more}
+use Rattle.lengthgrids.proofs.mark.Statement.{statement}
+use Rattle.lengthgrids.proofs.mark.Tie as tie
 
 abbrev Inv-loop : tie.InvT-loop
 Inv-loop n outlets marks₀ to j₀ marks j = (j ≤ length outlets) × MarkedWith n outlets j to marks₀ marks

@@ -1,12 +1,12 @@
--- `flowlengths::give_down` meets its contract: the two counts are stored.
+-- `lengthgrids::give_down` meets its contract: the two counts are stored.
 -- Assumes nothing.
 use mathlib.Core.Path.{ap}
 use Prim.Native.Nat.{ℕ}
 use lib.ListN.{set}
 use borrow.Author.Needs.{needs}
 use Rattle.lengths.specs.declared.Length.{Length}
-use Rattle.flowlengths.proofs.give_down.Statement.{statement}
-use Rattle.flowlengths.proofs.give_down.Tie as tie
+use Rattle.lengthgrids.proofs.give_down.Statement.{statement}
+use Rattle.lengthgrids.proofs.give_down.Tie as tie
 
 mul-t8 : tie.Need-mul-t8
 mul-t8 c = search needs

@@ -10,7 +10,7 @@ use Rattle.lengths.specs.declared.Length.{Length}
 use Rattle.lengths.specs.declared.Order.{Order}
 use Rattle.lengths.specs.declared.Order.the-variants.{Shorter, Same, Longer}
 use Rattle.lengths.specs.Rule.{plusStep, compared, saysShorter, isShorter}
-use Rattle.flowlengths.specs.Giving.{lengthAbove, GivesUp}
+use Rattle.lengthgrids.specs.Grids.{lengthAbove, GivesUp}
 
 module _ (x y : ℕ) (step : Step) (us ud : List ℕ) {longer : Length} (is-longer : longer ≡ plusStep (lengthAbove us ud x) step)
     {r : Order} (says : r ≡ compared (lengthAbove us ud y) longer) where
