@@ -36,6 +36,15 @@ uint32_t jb_subaccumulate(size_t rows, size_t cols, const uint8_t *codes, size_t
                           const uint32_t *accumulation, size_t accumulation_count, const uint32_t *outlets,
                           size_t outlets_count, uint32_t *subaccumulation, size_t subaccumulation_count);
 
+/* 10, 11, 12, 14 to 17. Writes two lengths of each cell in the first rows x cols places of four grids, as straight and
+   diagonal steps: down its walk to its outlet, the first on it, and up to the farthest cell of the same subwatershed above
+   it. A cell of no subwatershed has 0 in all four. */
+uint32_t jb_flow_lengths(size_t rows, size_t cols, const uint8_t *codes, size_t codes_count,
+                         const uint32_t *accumulation, size_t accumulation_count, const uint32_t *outlets,
+                         size_t outlets_count, uint32_t *down_straight, size_t down_straight_count,
+                         uint32_t *down_diagonal, size_t down_diagonal_count, uint32_t *up_straight,
+                         size_t up_straight_count, uint32_t *up_diagonal, size_t up_diagonal_count);
+
 /* 10, 11, 12, 14 to 18, 20, 21. Traces all longest paths to the outlet at a place of the list, counted from 0. Dropping is
    0 or not. Writes the subaccumulation, and the starts in order. The working space takes three numbers for each of the
    outlet's cells. results: straight, diagonal, paths, visited, dropped.

@@ -36,6 +36,25 @@ extern "C" {
         subaccumulation_count: usize,
     ) -> u32;
 
+    pub fn jb_flow_lengths(
+        rows: usize,
+        cols: usize,
+        codes: *const u8,
+        codes_count: usize,
+        accumulation: *const u32,
+        accumulation_count: usize,
+        outlets: *const u32,
+        outlets_count: usize,
+        down_straight: *mut u32,
+        down_straight_count: usize,
+        down_diagonal: *mut u32,
+        down_diagonal_count: usize,
+        up_straight: *mut u32,
+        up_straight_count: usize,
+        up_diagonal: *mut u32,
+        up_diagonal_count: usize,
+    ) -> u32;
+
     pub fn jb_trace_by_stack(
         rows: usize,
         cols: usize,

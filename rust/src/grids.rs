@@ -1,4 +1,4 @@
-//! Accumulation, its check, and subaccumulation.
+//! Accumulation, its check, subaccumulation, and flow lengths.
 
 use crate::declared;
 
@@ -62,6 +62,46 @@ pub fn subaccumulate(
             outlets.len(),
             subaccumulation.as_mut_ptr(),
             subaccumulation.len(),
+        )
+    }
+}
+
+/// Checks 10, 11, 12, 14 to 17. Leaves two lengths of each cell in the first rows × cols places of
+/// four grids, as straight and diagonal steps: down its walk to its outlet, the first on it, and up
+/// to the farthest cell of the same subwatershed above it. A cell of no subwatershed has 0 in all
+/// four.
+#[inline]
+#[must_use]
+pub fn flow_lengths(
+    rows: usize,
+    cols: usize,
+    codes: &[u8],
+    accumulation: &[u32],
+    outlets: &[u32],
+    down_straight: &mut [u32],
+    down_diagonal: &mut [u32],
+    up_straight: &mut [u32],
+    up_diagonal: &mut [u32],
+) -> u32 {
+    // SAFETY: as the root says of every call.
+    unsafe {
+        declared::jb_flow_lengths(
+            rows,
+            cols,
+            codes.as_ptr(),
+            codes.len(),
+            accumulation.as_ptr(),
+            accumulation.len(),
+            outlets.as_ptr(),
+            outlets.len(),
+            down_straight.as_mut_ptr(),
+            down_straight.len(),
+            down_diagonal.as_mut_ptr(),
+            down_diagonal.len(),
+            up_straight.as_mut_ptr(),
+            up_straight.len(),
+            up_diagonal.as_mut_ptr(),
+            up_diagonal.len(),
         )
     }
 }
