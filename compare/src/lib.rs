@@ -1,11 +1,12 @@
 //! A second reading of Jinxbanyan's rules.
 //!
-//! Everything here is written from the words of the scope paper ("01") and
-//! from nothing else, as directly as the words allow, and by other methods
-//! than a fast program would choose:
+//! Everything here is written from the words of the scope paper ("01") and of
+//! the later requests ("02"), and from nothing else, as directly as the words
+//! allow, and by other methods than a fast program would choose:
 //!
 //! * accumulation in topological order, rings by a search of their own;
-//! * lengths by walking from every cell;
+//! * lengths by walking from every cell, upstream ones by whose walk comes
+//!   first if the longest is walked first;
 //! * exact comparison of lengths by integer square roots;
 //! * the order of starts by comparing whole routes read upward;
 //! * visited and dropped by plain recursion over an explicit tree.
@@ -15,6 +16,7 @@
 //! | [`ground`] | codes, neighbours, walks, rings, accumulation |
 //! | [`lengths`] | a + b√2 and its order |
 //! | [`subwatershed`] | outlets, subaccumulation, longest starts, paths |
+//! | [`flow_lengths`] | each cell's lengths downstream and upstream |
 //! | [`search`] | visited and dropped |
 //! | [`entries`] | the grid entries, their checks and what they leave |
 //! | [`sheet`] | reading and writing the sheet file |
@@ -24,6 +26,7 @@
 
 pub mod desk;
 pub mod entries;
+pub mod flow_lengths;
 pub mod ground;
 pub mod lengths;
 pub mod random;

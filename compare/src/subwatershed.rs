@@ -41,6 +41,10 @@ impl<'a> Division<'a> {
         Division { ground, is_outlet, steps }
     }
 
+    pub fn ground(&self) -> Ground<'a> {
+        self.ground
+    }
+
     pub fn is_outlet(&self, cell: usize) -> bool {
         self.is_outlet[cell]
     }
@@ -55,17 +59,20 @@ impl<'a> Division<'a> {
         self.ground.inflows(cell).filter(|&(_, inflow)| !self.is_outlet(inflow))
     }
 
-    /// The first outlet on the walk from a non-null cell, if there is one. A
-    /// walk holds its own start, so an outlet meets itself.
+    /// The walk from a non-null cell down to its first outlet, or whole where
+    /// it meets none: each cell with the length up to there. A walk holds its
+    /// own start, so that of an outlet has no other cell.
+    pub fn walk(&self, cell: usize) -> impl Iterator<Item = (usize, Length)> + '_ {
+        std::iter::successors(Some((cell, Length::ZERO)), |&(here, length)| {
+            let step = if self.is_outlet(here) { None } else { self.steps[here] }?;
+            Some((step.to as usize, length.with_step(step.diagonal)))
+        })
+    }
+
+    /// The first outlet on the walk from a non-null cell, if there is one.
     pub fn meeting(&self, cell: usize) -> Option<Meeting> {
-        let mut here = cell;
-        let mut length = Length::ZERO;
-        while !self.is_outlet(here) {
-            let step = self.steps[here]?;
-            here = step.to as usize;
-            length = length.with_step(step.diagonal);
-        }
-        Some(Meeting { outlet: here, length })
+        let (outlet, length) = self.walk(cell).last()?;
+        self.is_outlet(outlet).then_some(Meeting { outlet, length })
     }
 
     /// Is this a cell number of the outlet's subwatershed: the outlet, and
@@ -127,12 +134,12 @@ impl<'a> Division<'a> {
 }
 
 #[cfg(test)]
-mod tests {
+pub(crate) mod tests {
     use super::*;
     use crate::ground::tests::every_grid;
 
-    #[test]
-    fn subaccumulation_counts_the_subwatershed() {
+    /// Every grid of four cells without rings, under every list of outlets up to its order.
+    pub(crate) fn every_division(judge: impl Fn(&Division, &[u32])) {
         for codes in every_grid(2, 2) {
             let ground = Ground::new(2, 2, &codes);
             if ground.has_ring() {
@@ -140,22 +147,27 @@ mod tests {
             }
             for set in 1..16u32 {
                 let outlets: Vec<u32> = (0..4).filter(|cell| set >> cell & 1 == 1).collect();
-                if outlets.iter().any(|&outlet| ground.is_null(outlet as usize)) {
-                    continue;
-                }
-                let division = Division::new(ground, &outlets);
-                let subaccumulation = division.subaccumulation();
-                for &outlet in &outlets {
-                    let outlet = outlet as usize;
-                    let count = (0..4).filter(|&cell| division.belongs(cell, outlet)).count();
-                    assert_eq!(subaccumulation[outlet] as usize, count);
-                }
-                for cell in ground.solid() {
-                    let inflows = division.inflows(cell).map(|(_, c)| subaccumulation[c]);
-                    assert_eq!(subaccumulation[cell], 1 + inflows.sum::<u32>());
+                if outlets.iter().all(|&outlet| !ground.is_null(outlet as usize)) {
+                    judge(&Division::new(ground, &outlets), &outlets);
                 }
             }
         }
+    }
+
+    #[test]
+    fn subaccumulation_counts_the_subwatershed() {
+        every_division(|division, outlets| {
+            let subaccumulation = division.subaccumulation();
+            for &outlet in outlets {
+                let outlet = outlet as usize;
+                let count = (0..4).filter(|&cell| division.belongs(cell, outlet)).count();
+                assert_eq!(subaccumulation[outlet] as usize, count);
+            }
+            for cell in division.ground().solid() {
+                let inflows = division.inflows(cell).map(|(_, c)| subaccumulation[c]);
+                assert_eq!(subaccumulation[cell], 1 + inflows.sum::<u32>());
+            }
+        });
     }
 
     #[test]

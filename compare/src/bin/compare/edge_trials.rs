@@ -18,13 +18,13 @@ pub fn recursion(comparison: &mut Comparison) {
     for (cells, due) in [(4096, 0), (4097, 19)] {
         for way in [0, 2, 4, 6] {
             comparison.about(format!("{cells} cells, entering by neighbour {way}"));
-            both_engines(comparison, &straight_chain(way, cells), due);
+            lengths_and_engines(comparison, &straight_chain(way, cells), due);
         }
         let bent = [("diagonal serpent", diagonal_serpent(cells)), ("zigzag", zigzag(cells))];
         for (name, (grid, outlet)) in bent {
             for turns in 0..4 {
                 comparison.about(format!("{cells} cells, {name} turned {turns}"));
-                both_engines(comparison, &turned(&grid, outlet, turns), due);
+                lengths_and_engines(comparison, &turned(&grid, outlet, turns), due);
             }
         }
         let (rows, cols) = if cells == 4096 { (64, 64) } else { (17, 241) };
@@ -32,7 +32,7 @@ pub fn recursion(comparison: &mut Comparison) {
             let (grid, outlet) = full(rows, cols, kind);
             for turns in 0..4 {
                 comparison.about(format!("{cells} cells, {kind} turned {turns}"));
-                both_engines(comparison, &turned(&grid, outlet, turns), due);
+                lengths_and_engines(comparison, &turned(&grid, outlet, turns), due);
             }
         }
     }
@@ -56,6 +56,7 @@ pub fn largest_grid(comparison: &mut Comparison) {
             comparison.accumulate(grid.rows, grid.cols, &grid.codes, grid.cells());
             comparison.check_accumulation(terrain);
             comparison.subaccumulate(terrain, &[outlet], grid.cells());
+            comparison.flow_lengths(terrain, &[outlet], [grid.cells(); 4]);
             let ask = Ask { terrain, outlets: &[outlet], place: 0, dropping: 1 };
             let traced = comparison.trace(Engine::Stack, ask, rooms);
             comparison.draw(terrain, &[outlet], 0, traced.list[0], 4096);
@@ -84,16 +85,17 @@ pub fn large_arm(comparison: &mut Comparison) {
     grid.codes[SIDE + 1..SIDE + 3].fill(code_of((0, -1)));
     for turns in 0..2 {
         comparison.about(format!("a large arm turned {turns}"));
-        both_engines(comparison, &turned(&grid, SIDE as u32, turns), 19);
+        lengths_and_engines(comparison, &turned(&grid, SIDE as u32, turns), 19);
     }
 }
 
-/// Both engines on one subwatershed, with and without dropping; the stack's
-/// working space and list are just large enough.
-fn both_engines(comparison: &mut Comparison, (grid, outlet): &(Grid, u32), due: u32) {
+/// Flow lengths and both engines on one subwatershed, these with and without
+/// dropping; the stack's working space and list are just large enough.
+fn lengths_and_engines(comparison: &mut Comparison, (grid, outlet): &(Grid, u32), due: u32) {
     let accumulation = grid.ground().accumulation();
     let cells = accumulation[*outlet as usize];
     let terrain = terrain(grid, &accumulation);
+    comparison.flow_lengths(terrain, &[*outlet], [grid.cells(); 4]);
     for dropping in [0, 1] {
         let ask = Ask { terrain, outlets: &[*outlet], place: 0, dropping };
         let rooms = Rooms { grid: grid.cells(), list: 256, work: 3 * cells as usize };

@@ -8,6 +8,7 @@ pub enum Entry {
     Accumulate,
     CheckAccumulation,
     Subaccumulate,
+    FlowLengths,
     TraceByStack,
     TraceByStackDropping,
     TraceByRecursion,
@@ -17,10 +18,11 @@ pub enum Entry {
     WriteSheet,
 }
 
-const ENTRIES: [Entry; 10] = [
+const ENTRIES: [Entry; 11] = [
     Entry::Accumulate,
     Entry::CheckAccumulation,
     Entry::Subaccumulate,
+    Entry::FlowLengths,
     Entry::TraceByStack,
     Entry::TraceByStackDropping,
     Entry::TraceByRecursion,
@@ -36,6 +38,7 @@ impl Entry {
             Entry::Accumulate => "accumulate",
             Entry::CheckAccumulation => "check",
             Entry::Subaccumulate => "subacc",
+            Entry::FlowLengths => "lengths",
             Entry::TraceByStack => "stack",
             Entry::TraceByStackDropping => "stack-drop",
             Entry::TraceByRecursion => "recur",
@@ -51,7 +54,7 @@ impl Entry {
         match self {
             Entry::Accumulate => &[0, 10, 11, 12, 13],
             Entry::CheckAccumulation => &[0, 10, 11, 12, 14],
-            Entry::Subaccumulate => &[0, 10, 11, 12, 14, 15, 16, 17],
+            Entry::Subaccumulate | Entry::FlowLengths => &[0, 10, 11, 12, 14, 15, 16, 17],
             Entry::TraceByStack | Entry::TraceByStackDropping => {
                 &[0, 10, 11, 12, 14, 15, 16, 17, 18, 20, 21]
             }

@@ -5,7 +5,7 @@ mod table;
 mod trap;
 
 use crate::calls::{Ask, Comparison, Engine, Rooms};
-use single_calls::{refusals, sheets, whole_subaccumulation};
+use single_calls::{refusals, sheets, whole_flow_lengths, whole_subaccumulation};
 use table::TRAPS;
 use trap::Trap;
 
@@ -14,8 +14,10 @@ pub fn run(comparison: &mut Comparison) {
         comparison.about(format!("trap: {}", trap.name));
         tracing(comparison, trap);
         drawing(comparison, trap);
+        flow_lengths(comparison, trap);
     }
     whole_subaccumulation(comparison);
+    whole_flow_lengths(comparison);
     refusals(comparison);
     sheets(comparison);
 }
@@ -66,6 +68,29 @@ fn drawing(comparison: &mut Comparison, trap: &Trap) {
             assert_eq!(path.len(), steps + 1, "{}", trap.name);
             assert_eq!((path[0], path[steps]), (start, trap.outlets[place]), "{}", trap.name);
             assert_eq!(draw(steps), (23, vec![]), "{}", trap.name);
+        }
+    }
+}
+
+/// The longest length stands at the outlet upstream and at each start downstream, and on the path
+/// between them the two lengths of every cell add up to it.
+fn flow_lengths(comparison: &mut Comparison, trap: &Trap) {
+    let cells = trap.codes.len();
+    let (number, [down_straight, down_diagonal, up_straight, up_diagonal]) =
+        comparison.flow_lengths(trap.terrain(), trap.outlets, [cells; 4]);
+    assert_eq!(number, 0, "{}", trap.name);
+    let down = |cell: usize| (down_straight[cell], down_diagonal[cell]);
+    let up = |cell: usize| (up_straight[cell], up_diagonal[cell]);
+    for (place, answer) in trap.answers.iter().enumerate() {
+        let outlet = trap.outlets[place];
+        assert_eq!((down(outlet as usize), up(outlet as usize)), ((0, 0), answer.length));
+        for &start in answer.starts {
+            assert_eq!((down(start as usize), up(start as usize)), (answer.length, (0, 0)));
+            let (_, path) = comparison.draw(trap.terrain(), trap.outlets, place, start, cells);
+            for cell in path.into_iter().map(|cell| cell as usize) {
+                let sum = (down(cell).0 + up(cell).0, down(cell).1 + up(cell).1);
+                assert_eq!(sum, answer.length, "{}", trap.name);
+            }
         }
     }
 }

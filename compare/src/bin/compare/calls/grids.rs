@@ -1,4 +1,4 @@
-//! Accumulation, its check, and subaccumulation.
+//! Accumulation, its check, subaccumulation, and flow lengths.
 
 use second_reading::entries::{self, Terrain};
 
@@ -57,5 +57,46 @@ impl Comparison {
             found,
         );
         due
+    }
+
+    /// The number, and the four grids: straight and diagonal steps downstream, then upstream.
+    pub fn flow_lengths(
+        &mut self,
+        terrain: Terrain,
+        outlets: &[u32],
+        rooms: [usize; 4],
+    ) -> (u32, [Vec<u32>; 4]) {
+        let Terrain { rows, cols, codes, accumulation } = terrain;
+        let codes = self.input("codes", codes);
+        let accumulation = self.input("accumulation", accumulation);
+        let outlets = self.input("outlets", outlets);
+        let names = ["down_straight", "down_diagonal", "up_straight", "up_diagonal"];
+        let mut grids = [0, 1, 2, 3].map(|at| self.output(names[at], rooms[at]));
+        let lent = grids.each_mut().map(|grid| &mut grid.due[..]);
+        let due = number(entries::flow_lengths(terrain, outlets.contents, lent));
+        let found = self.on_small_stack(codes.contents.len(), || {
+            let [down_straight, down_diagonal, up_straight, up_diagonal] =
+                grids.each_mut().map(|grid| grid.lent.slice_mut());
+            jinxbanyan::flow_lengths(
+                rows,
+                cols,
+                codes.lent.slice(),
+                accumulation.lent.slice(),
+                outlets.lent.slice(),
+                down_straight,
+                down_diagonal,
+                up_straight,
+                up_diagonal,
+            )
+        });
+        let [a, b, c, d] = &grids;
+        self.settle(
+            Entry::FlowLengths,
+            format_args!("rows {rows} cols {cols}"),
+            &[&codes, &accumulation, &outlets, a, b, c, d],
+            due,
+            found,
+        );
+        (due, grids.map(|grid| grid.due))
     }
 }

@@ -10,17 +10,22 @@ pub type Place = (usize, usize);
 /// outlet's own walk ends.
 pub fn chain(rows: usize, cols: usize, walk: &[Place]) -> (Grid, u32) {
     let mut grid = Grid::null("chain", rows, cols);
-    let number = |&(row, col): &Place| row * cols + col;
-    for pair in walk.windows(2) {
-        let down = pair[1].0 as isize - pair[0].0 as isize;
-        let right = pair[1].1 as isize - pair[0].1 as isize;
-        grid.codes[number(&pair[0])] = code_of((down, right));
-    }
-    let outlet = number(&walk[walk.len() - 1]);
+    lay(&mut grid, walk);
+    let (row, col) = walk[walk.len() - 1];
+    let outlet = row * cols + col;
     let ground = grid.ground();
     let way = (0..8).find(|&way| ground.neighbour(outlet, way).is_none_or(|c| ground.is_null(c)));
     grid.codes[outlet] = 1 << way.expect("a way to end");
     (grid, outlet as u32)
+}
+
+/// Lays a walk through the given places; the last keeps its code.
+pub fn lay(grid: &mut Grid, walk: &[Place]) {
+    for pair in walk.windows(2) {
+        let ((row, col), (to_row, to_col)) = (pair[0], pair[1]);
+        let step = (to_row as isize - row as isize, to_col as isize - col as isize);
+        grid.codes[row * grid.cols + col] = code_of(step);
+    }
 }
 
 /// A straight walk of 4,096 cells that always enters by the same neighbour;

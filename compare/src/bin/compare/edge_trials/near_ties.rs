@@ -1,7 +1,7 @@
 //! Lengths that all but tie.
 
-use super::both_engines;
-use super::chains::{chain, turned, Place};
+use super::chains::{chain, lay, turned, Place};
+use super::lengths_and_engines;
 use crate::calls::Comparison;
 use crate::grounds::{code_of, Grid};
 
@@ -65,9 +65,34 @@ fn trunk_below_fork(cols: usize, (straight, diagonal): (usize, usize)) -> Vec<Pl
     walk
 }
 
+/// Two arms above a fork at the western edge, straight steps to the east and diagonal ones to and
+/// fro south of them, each with so many straight steps more above: to the east and back in the
+/// next row. So the arms are long themselves, and no trunk is needed.
+fn long_arms(straight: usize, diagonal: usize, more: usize) -> (Grid, u32) {
+    const COLS: usize = 4096;
+    const FORK: usize = 2;
+    let mut grid = Grid::null("long arms", FORK + 5, COLS);
+    let row_at = |at: usize| if at == 0 { FORK } else { FORK + 2 - at % 2 };
+    let arms: [(Vec<Place>, usize); 2] = [
+        ((0..=straight).map(|at| (FORK, at)).collect(), FORK - 1),
+        ((0..=diagonal).map(|at| (row_at(at), at)).collect(), row_at(diagonal) + 1),
+    ];
+    for (mut arm, back) in arms {
+        let (row, col) = arm[arm.len() - 1];
+        let east = (col + 1..COLS).map(|col| (row, col));
+        arm.extend(east.chain((0..COLS).rev().map(|col| (back, col))).take(more));
+        arm.reverse();
+        lay(&mut grid, &arm);
+    }
+    let fork = FORK * COLS;
+    grid.codes[fork] = code_of((0, -1));
+    (grid, fork as u32)
+}
+
 /// Lengths whose difference is as small as it can be for their size: the best
 /// fractions for √2 and those beside them, then the same far from the outlet,
-/// where numbers of few digits would take them for equal.
+/// and far from the starts, where numbers of few digits would take them for
+/// equal.
 pub fn near_ties(comparison: &mut Comparison) {
     let (mut straight, mut diagonal) = (3, 2);
     while straight < 4000 {
@@ -91,6 +116,17 @@ pub fn near_ties(comparison: &mut Comparison) {
         let forked = two_arms(3363, 2378, trunk);
         near_tie(comparison, (3363, 2378), trunk, &forked);
     }
+    // Either arm is the longer one, and either comes first in the order of neighbours.
+    for (straight, diagonal) in [(1393, 985), (3363, 2378)] {
+        for more in [1000, 3400] {
+            comparison.about(format!("near tie of {straight} and {diagonal} below {more} each"));
+            let (grid, outlet) = long_arms(straight, diagonal, more);
+            let mirrored = (grid.mirrored(), outlet + grid.cols as u32 - 1);
+            for forked in [(grid, outlet), mirrored] {
+                lengths_and_engines(comparison, &forked, 19);
+            }
+        }
+    }
 }
 
 fn near_tie(
@@ -102,5 +138,5 @@ fn near_tie(
     let (grid, outlet) = forked;
     comparison.about(format!("near tie of {straight} and {diagonal} above {trunk:?}"));
     let cells = grid.ground().accumulation()[*outlet as usize];
-    both_engines(comparison, forked, if cells > 4096 { 19 } else { 0 });
+    lengths_and_engines(comparison, forked, if cells > 4096 { 19 } else { 0 });
 }

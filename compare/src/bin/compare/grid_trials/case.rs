@@ -20,6 +20,8 @@ pub struct Case {
     pub start: u32,
     /// Places of the written grid, accumulation or subaccumulation.
     pub grid_room: usize,
+    /// Places of the four grids of flow lengths.
+    pub length_rooms: [usize; 4],
     pub list_room: usize,
     pub work_room: usize,
     pub path_room: usize,
@@ -44,6 +46,7 @@ impl Case {
             place,
             start,
             grid_room: grid.cells(),
+            length_rooms: [grid.cells(); 4],
             list_room: 1,
             work_room: 3 * grid.cells(),
             path_room: grid.cells(),
@@ -95,6 +98,7 @@ impl Case {
         comparison.accumulate(self.rows, self.cols, &self.codes, self.grid_room);
         comparison.check_accumulation(self.terrain());
         comparison.subaccumulate(self.terrain(), &self.outlets, self.grid_room);
+        comparison.flow_lengths(self.terrain(), &self.outlets, self.length_rooms);
         self.trace(comparison, self.rooms(), random);
         self.draw(comparison, self.start, self.path_room);
     }

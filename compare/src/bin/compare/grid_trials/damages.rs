@@ -62,13 +62,18 @@ const DAMAGES: [Damage; 24] = [
     ("accumulation one short", |case, _| {
         case.accumulation.pop();
     }),
-    ("written grid one short", |case, _| case.grid_room = case.grid_room.saturating_sub(1)),
+    ("written grid one short", |case, random| {
+        case.grid_room = case.grid_room.saturating_sub(1);
+        let room = &mut case.length_rooms[random.below(4)];
+        *room = room.saturating_sub(1);
+    }),
     ("all longer", |case, random| {
         for _ in 0..random.between(1, 9) {
             case.codes.push(random.bits() as u8);
             case.accumulation.push(random.bits() as u32);
         }
         case.grid_room += random.between(1, 9);
+        case.length_rooms = case.length_rooms.map(|room| room + random.between(1, 9));
         case.list_room += random.between(1, 9);
         case.work_room += random.between(1, 9);
         case.path_room += random.between(1, 9);

@@ -67,6 +67,7 @@ fn once(
     comparison.accumulate(grid.rows, grid.cols, &grid.codes, cells);
     comparison.check_accumulation(terrain);
     comparison.subaccumulate(terrain, outlets, cells);
+    comparison.flow_lengths(terrain, outlets, [cells; 4]);
     let place = outlets.len() - 1;
     let ask = Ask { terrain, outlets, place, dropping: 1 };
     let rooms = Rooms { grid: cells, list: 100, work: 3 * cells };

@@ -5,6 +5,14 @@ use second_reading::sheet::sheet;
 
 use crate::calls::{Ask, Comparison, Engine, Rooms};
 
+/// M5's ground with a corner null.
+const WITH_NULL: Terrain = Terrain {
+    rows: 3,
+    cols: 3,
+    codes: &[2, 4, 8, 1, 4, 16, 0, 4, 16],
+    accumulation: &[1, 1, 1, 1, 6, 1, 0, 8, 1],
+};
+
 /// Three outlets on one walk, listed in another order than it meets them: every
 /// cell's subaccumulation.
 pub fn whole_subaccumulation(comparison: &mut Comparison) {
@@ -24,6 +32,31 @@ pub fn whole_subaccumulation(comparison: &mut Comparison) {
     }
 }
 
+/// Two outlets on one walk, with a null cell beside them: every cell's lengths. Then the upper one
+/// alone, and calls that lend a grid too few or too many places.
+pub fn whole_flow_lengths(comparison: &mut Comparison) {
+    comparison.about("trap: all flow lengths".to_string());
+    let mut told =
+        |outlets: &[u32], rooms: [usize; 4]| comparison.flow_lengths(WITH_NULL, outlets, rooms);
+    let (number, grids) = told(&[7, 4], [9; 4]);
+    assert_eq!(number, 0);
+    assert_eq!(grids[0], [0, 1, 0, 1, 0, 1, 0, 0, 1], "straight, downstream");
+    assert_eq!(grids[1], [1, 0, 1, 0, 0, 0, 0, 0, 0], "diagonal, downstream");
+    assert_eq!(grids[2], [0, 0, 0, 0, 0, 0, 0, 1, 0], "straight, upstream");
+    assert_eq!(grids[3], [0, 0, 0, 0, 1, 0, 0, 0, 0], "diagonal, upstream");
+    let (number, grids) = told(&[4], [9; 4]);
+    assert_eq!(number, 0);
+    assert_eq!(grids[0], [0, 1, 0, 1, 0, 1, 0, 0, 0], "nothing below the outlet");
+    assert_eq!(grids[2], [0; 9], "nothing below the outlet");
+    for grid in 0..4 {
+        for (room, number) in [(0, 11), (8, 11), (10, 0)] {
+            let mut rooms = [9; 4];
+            rooms[grid] = room;
+            assert_eq!(told(&[7, 4], rooms).0, number);
+        }
+    }
+}
+
 /// Grid entries.
 pub fn refusals(comparison: &mut Comparison) {
     comparison.about("trap: M6, a ring".to_string());
@@ -37,6 +70,7 @@ pub fn refusals(comparison: &mut Comparison) {
     let terrain = Terrain { rows: 1, cols: 3, codes: &[1, 4, 16], accumulation: &[1, 3, 2] };
     assert_eq!(comparison.check_accumulation(terrain), 14);
     assert_eq!(comparison.subaccumulate(terrain, &[1], 3), 14);
+    assert_eq!(comparison.flow_lengths(terrain, &[1], [3; 4]).0, 14);
     comparison.about("trap: no accumulation agrees on a ring".to_string());
     for accumulation in [[0, 0], [1, 2], [2, 1], [2, 2], [u32::MAX, 0], [0, u32::MAX]] {
         let terrain = Terrain { rows: 1, cols: 2, codes: &[1, 16], accumulation: &accumulation };
@@ -44,13 +78,7 @@ pub fn refusals(comparison: &mut Comparison) {
     }
 
     comparison.about("trap: starts of drawing".to_string());
-    let terrain = Terrain {
-        rows: 3,
-        cols: 3,
-        codes: &[2, 4, 8, 1, 4, 16, 0, 4, 16],
-        accumulation: &[1, 1, 1, 1, 6, 1, 0, 8, 1],
-    };
-    let mut draw = |place, start| comparison.draw(terrain, &[7, 4], place, start, 9);
+    let mut draw = |place, start| comparison.draw(WITH_NULL, &[7, 4], place, start, 9);
     assert_eq!(draw(0, 7), (0, vec![7]));
     assert_eq!(draw(0, 8), (0, vec![8, 7]));
     assert_eq!(draw(1, 4), (0, vec![4]));
@@ -69,6 +97,7 @@ pub fn refusals(comparison: &mut Comparison) {
     let terrain = Terrain { rows: 1, cols: 5, codes: &[1, 1, 1, 1, 0], accumulation };
     for (outlets, number) in [(&[3, 3, 4][..], 16), (&[3, 3, 5], 16), (&[3, 3], 17)] {
         assert_eq!(comparison.subaccumulate(terrain, outlets, 5), number);
+        assert_eq!(comparison.flow_lengths(terrain, outlets, [5; 4]).0, number);
         for engine in [Engine::Stack, Engine::Recursion] {
             let ask = Ask { terrain, outlets, place: 0, dropping: 1 };
             let traced = comparison.trace(engine, ask, Rooms { grid: 5, list: 5, work: 15 });

@@ -1,0 +1,150 @@
+//! The tracing entries.
+
+use super::{checked_outlets, fill, outlet_at, Terrain};
+use crate::lengths::Length;
+use crate::search::Tree;
+use crate::subwatershed::Division;
+use crate::{check, Refusal};
+
+/// The most cells of a subwatershed that is traced by recursion.
+pub const MOST_BY_RECURSION: u32 = 4096;
+
+/// A tracing answer: which kind it is, and beside it the search's counts,
+/// both 0 on every refusal but 21.
+#[derive(Clone, Copy, Debug, PartialEq, Eq)]
+pub struct Tracing {
+    pub kind: Kind,
+    pub visited: u32,
+    pub dropped: u32,
+}
+
+/// The kinds of a tracing answer.
+#[derive(Clone, Copy, Debug, PartialEq, Eq)]
+pub enum Kind {
+    /// The length of the longest paths and their number.
+    Found { length: Length, paths: u32 },
+    /// Refused with 21: the true number of paths.
+    NoPlace { paths: u32 },
+    /// Any other refusal.
+    Refused(Refusal),
+}
+
+impl Tracing {
+    fn refused(refusal: Refusal) -> Self {
+        Tracing { kind: Kind::Refused(refusal), visited: 0, dropped: 0 }
+    }
+
+    /// The refusal's number, or 0.
+    pub fn number(&self) -> u32 {
+        match self.kind {
+            Kind::Found { .. } => 0,
+            Kind::NoPlace { .. } => 21,
+            Kind::Refused(Refusal(number)) => number,
+        }
+    }
+
+    /// The answer as five numbers: straight, diagonal, paths, visited and
+    /// dropped. There is no length on 21, and nothing on another refusal.
+    pub fn results(&self) -> [u32; 5] {
+        let (length, paths) = match self.kind {
+            Kind::Found { length, paths } => (length, paths),
+            Kind::NoPlace { paths } => (Length::ZERO, paths),
+            Kind::Refused(_) => (Length::ZERO, 0),
+        };
+        let Length { straight, diagonal } = length;
+        [straight, diagonal, paths, self.visited, self.dropped]
+    }
+}
+
+/// The outlet to trace, its subwatersheds, and its subaccumulation.
+struct Traced<'a> {
+    division: Division<'a>,
+    outlet: usize,
+    cells: u32,
+}
+
+/// What both tracing entries begin with: checks 10 to 12 and 14 to 18. Past
+/// them the lent grid is filled with the subaccumulation, and stays so on 19,
+/// 20 and 21.
+fn begin_tracing<'a>(
+    terrain: Terrain<'a>,
+    outlets: &[u32],
+    place: usize,
+    subaccumulation: &mut [u32],
+) -> Result<Traced<'a>, Refusal> {
+    let ground = terrain.checked(&[subaccumulation.len()])?;
+    let division = checked_outlets(ground, outlets)?;
+    let outlet = outlet_at(outlets, place)?;
+    fill(subaccumulation, &division.subaccumulation());
+    Ok(Traced { division, outlet, cells: subaccumulation[outlet] })
+}
+
+impl Traced<'_> {
+    /// What both tracing entries end with: check 21 and the answer. Accepted,
+    /// the first places of the list hold all longest starts in order; refused,
+    /// every place holds the first of them.
+    fn end(&self, dropping: bool, starts: &mut [u32]) -> Tracing {
+        let longest = self.division.longest(self.outlet);
+        let counts = Tree::above(&self.division, self.outlet).search(dropping);
+        let paths = longest.starts.len();
+        let held = paths.min(starts.len());
+        fill(starts, &longest.starts[..held]);
+        let length = longest.length;
+        let kind = if held == paths {
+            Kind::Found { length, paths: paths as u32 }
+        } else {
+            Kind::NoPlace { paths: paths as u32 }
+        };
+        Tracing { kind, visited: counts.visited, dropped: counts.dropped }
+    }
+}
+
+/// Tracing all longest paths of one outlet by recursion (10 to 12, 14 to 19,
+/// 21), with or without dropping.
+///
+/// The subaccumulation grid is filled on acceptance and on 19 and 21; the list
+/// on acceptance as far as there are paths, and on 21 whole.
+pub fn trace_by_recursion(
+    terrain: Terrain,
+    outlets: &[u32],
+    place: usize,
+    dropping: bool,
+    subaccumulation: &mut [u32],
+    starts: &mut [u32],
+) -> Tracing {
+    let begun = begin_tracing(terrain, outlets, place, subaccumulation).and_then(|traced| {
+        check(19, traced.cells <= MOST_BY_RECURSION)?;
+        Ok(traced)
+    });
+    match begun {
+        Ok(traced) => traced.end(dropping, starts),
+        Err(refusal) => Tracing::refused(refusal),
+    }
+}
+
+/// Tracing all longest paths of one outlet with lent working space (10 to 12,
+/// 14 to 18, 20, 21), with or without dropping.
+///
+/// As by recursion, with 20 for 19. The working space must have three numbers
+/// for each cell of the subwatershed; on acceptance and on 21 those are left
+/// 0, on 20 it is not touched.
+pub fn trace_by_stack(
+    terrain: Terrain,
+    outlets: &[u32],
+    place: usize,
+    dropping: bool,
+    subaccumulation: &mut [u32],
+    starts: &mut [u32],
+    work: &mut [u32],
+) -> Tracing {
+    let begun = begin_tracing(terrain, outlets, place, subaccumulation).and_then(|traced| {
+        let needed = 3 * traced.cells as usize;
+        check(20, work.len() >= needed)?;
+        work[..needed].fill(0);
+        Ok(traced)
+    });
+    match begun {
+        Ok(traced) => traced.end(dropping, starts),
+        Err(refusal) => Tracing::refused(refusal),
+    }
+}
