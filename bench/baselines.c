@@ -158,6 +158,58 @@ uint32_t plain_subaccumulate(size_t rows, size_t cols, const uint8_t *codes, con
     return count_and_pass(rows, cols, codes, marks, subaccumulation);
 }
 
+/* bit of a cell's straight steps down while at work: an outlet, which is not entered from below */
+static const uint32_t OUTLET = 1u << 31;
+
+static void traverse(size_t rows, size_t cols, const uint8_t *codes, size_t outlet, uint32_t *down_straight,
+                     uint32_t *down_diagonal, uint32_t *up_straight, uint32_t *up_diagonal) {
+    size_t at = outlet, row = outlet / cols, col = outlet % cols;
+    uint32_t steps[2] = {0, 0}; /* straight and diagonal, from the cell down to the outlet */
+    unsigned later = 0xFF;      /* the neighbours that are not looked at yet */
+    long to[8];
+    offsets(cols, to);
+    for (;;) {
+        unsigned mask = inflow_mask(rows, cols, codes, row, col) & later;
+        while (mask != 0 && down_straight[at + (size_t)to[__builtin_ctz(mask)]] & OUTLET) mask &= mask - 1;
+        int k;
+        if (mask != 0) {
+            k = __builtin_ctz(mask);
+            at += (size_t)to[k];
+            steps[k & 1]++;
+            down_straight[at] = steps[0];
+            down_diagonal[at] = steps[1];
+            later = 0xFF;
+        } else {
+            if (at == outlet) return;
+            k = way(codes[at]);
+            uint32_t a = up_straight[at] + !(k & 1), b = up_diagonal[at] + (k & 1);
+            at += (size_t)to[k];
+            steps[k & 1]--;
+            if (a + b * ROOT > up_straight[at] + up_diagonal[at] * ROOT) {
+                up_straight[at] = a;
+                up_diagonal[at] = b;
+            }
+            later = 0xFFu << (((k + 4) & 7) + 1);
+        }
+        row += (size_t)DOWN[k];
+        col += (size_t)RIGHT[k];
+    }
+}
+
+uint32_t plain_flow_lengths(size_t rows, size_t cols, const uint8_t *codes, const uint32_t *accumulation,
+                            const uint32_t *outlets, size_t count, uint32_t *down_straight, uint32_t *down_diagonal,
+                            uint32_t *up_straight, uint32_t *up_diagonal) {
+    uint32_t number = plain_equation(rows, cols, codes, accumulation);
+    if (number != 0) return number;
+    uint32_t *grids[4] = {down_straight, down_diagonal, up_straight, up_diagonal};
+    for (int i = 0; i < 4; i++) memset(grids[i], 0, rows * cols * sizeof **grids);
+    for (size_t i = 0; i < count; i++) down_straight[outlets[i]] = OUTLET;
+    for (size_t i = 0; i < count; i++)
+        traverse(rows, cols, codes, outlets[i], down_straight, down_diagonal, up_straight, up_diagonal);
+    for (size_t i = 0; i < count; i++) down_straight[outlets[i]] = 0;
+    return 0;
+}
+
 struct plain_found plain_search(size_t rows, size_t cols, const uint8_t *codes, const uint32_t *subaccumulation,
                                 const uint8_t *marks, uint32_t outlet, int dropping, uint32_t *starts, size_t places,
                                 uint32_t *work) {

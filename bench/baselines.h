@@ -24,6 +24,13 @@ uint32_t plain_equation(size_t rows, size_t cols, const uint8_t *codes, const ui
 uint32_t plain_subaccumulate(size_t rows, size_t cols, const uint8_t *codes, const uint32_t *accumulation,
                              const uint32_t *outlets, size_t count, uint32_t *subaccumulation, uint8_t *marks);
 
+/* The equation, then each subwatershed without a stack: from a cell into the inflow that comes next, and down by the code
+   when none is left. A cell gets its downstream length on the way up and gives the one below its upstream length on the
+   way down. Cells of no subwatershed get 0. 0, 12 or 14. */
+uint32_t plain_flow_lengths(size_t rows, size_t cols, const uint8_t *codes, const uint32_t *accumulation,
+                            const uint32_t *outlets, size_t count, uint32_t *down_straight, uint32_t *down_diagonal,
+                            uint32_t *up_straight, uint32_t *up_diagonal);
+
 /* The longest paths to an outlet, from pending cells; the subaccumulation and the marks are those of
    plain_subaccumulate. work has three numbers for each of the outlet's cells, which are left 0. */
 struct plain_found plain_search(size_t rows, size_t cols, const uint8_t *codes, const uint32_t *subaccumulation,

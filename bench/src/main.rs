@@ -112,8 +112,8 @@ fn machine(sizes: &[(usize, Runs)]) {
         tables::grouped(trials::LIST)
     );
     println!(
-        "- Rust: traces where all its walks together have at most {} steps, and only once, with \
-         dropping, where they have more than {}",
+        "- Rust: traces and gives flow lengths where all its walks together have at most {} steps; \
+         only once, and traces with dropping alone, where they have more than {}",
         tables::grouped(trials::MOST_STEPS as usize),
         tables::grouped(trials::MANY_STEPS as usize)
     );

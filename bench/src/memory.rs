@@ -14,12 +14,15 @@ use crate::trials::{accepted, LIST};
 /// The side of the comb on which memory is measured.
 const SIDE: usize = 4096;
 
-const WORKS: [&str; 5] = ["accumulate", "check 14", "subaccumulate", "trace by stack", "draw"];
+const WORKS: [&str; 6] =
+    ["accumulate", "check 14", "subaccumulate", "flow lengths", "trace by stack", "draw"];
+
+/// What the Rust implementation does not do here: it would walk for minutes.
+const NOT_IN_RUST: [&str; 2] = ["flow lengths", "trace by stack"];
 
 const WHO: [&str; 3] = ["library", "plain C", "Rust"];
 
 /// What one process lends, and how much memory it has in use at most when it makes the call alone.
-/// The Rust implementation does not trace here: it would walk for minutes.
 pub struct Memory(Vec<Vec<String>>);
 
 impl Memory {
@@ -37,7 +40,7 @@ pub fn memory() -> Memory {
     for work in WORKS {
         let mut row = vec![work.to_string()];
         for who in WHO {
-            if (who, work) == ("Rust", "trace by stack") {
+            if who == "Rust" && NOT_IN_RUST.contains(&work) {
                 row.extend(["–".to_string(), "–".to_string()]);
                 continue;
             }
@@ -109,6 +112,26 @@ pub fn memory_of(who: &str, work: &str) {
                 ("Rust", "subaccumulate") => {
                     assert!(entries::subaccumulate(terrain, &outlets, &mut grid()).is_ok());
                     4 * cells
+                }
+                ("library", "flow lengths") => {
+                    accepted(jinxbanyan::flow_lengths(
+                        SIDE,
+                        SIDE,
+                        codes,
+                        &accumulation,
+                        &outlets,
+                        &mut grid(),
+                        &mut grid(),
+                        &mut grid(),
+                        &mut grid(),
+                    ));
+                    16 * cells
+                }
+                ("plain C", "flow lengths") => {
+                    let mut grids = [grid(), grid(), grid(), grid()];
+                    let grids = grids.each_mut().map(|grid| &mut grid[..]);
+                    accepted(plain::flow_lengths(terrain, &outlets, grids));
+                    16 * cells
                 }
                 ("library", "trace by stack") => {
                     accepted(jinxbanyan::trace_by_stack(

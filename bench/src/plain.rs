@@ -43,6 +43,19 @@ mod c {
             marks: *mut u8,
         ) -> u32;
 
+        pub fn plain_flow_lengths(
+            rows: usize,
+            cols: usize,
+            codes: *const u8,
+            accumulation: *const u32,
+            outlets: *const u32,
+            count: usize,
+            down_straight: *mut u32,
+            down_diagonal: *mut u32,
+            up_straight: *mut u32,
+            up_diagonal: *mut u32,
+        ) -> u32;
+
         pub fn plain_search(
             rows: usize,
             cols: usize,
@@ -109,6 +122,30 @@ pub fn subaccumulate(
             outlets.len(),
             subaccumulation.as_mut_ptr(),
             marks.as_mut_ptr(),
+        )
+    }
+}
+
+/// The four grids hold straight and diagonal steps downstream, then upstream.
+pub fn flow_lengths(terrain: Terrain, outlets: &[u32], grids: [&mut [u32]; 4]) -> u32 {
+    let Terrain { rows, cols, codes, accumulation } = terrain;
+    let cells = rows * cols;
+    assert!(codes.len() >= cells && accumulation.len() >= cells);
+    assert!(grids.iter().all(|grid| grid.len() >= cells));
+    assert!(outlets.iter().all(|&outlet| (outlet as usize) < cells));
+    let [down_straight, down_diagonal, up_straight, up_diagonal] = grids.map(<[u32]>::as_mut_ptr);
+    unsafe {
+        c::plain_flow_lengths(
+            rows,
+            cols,
+            codes.as_ptr(),
+            accumulation.as_ptr(),
+            outlets.as_ptr(),
+            outlets.len(),
+            down_straight,
+            down_diagonal,
+            up_straight,
+            up_diagonal,
         )
     }
 }

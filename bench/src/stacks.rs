@@ -45,6 +45,21 @@ fn stacks_of(side: usize) -> Vec<(&'static str, usize)> {
         let grid = &mut grid;
         accepted(jinxbanyan::subaccumulate(side, side, codes, accumulation, &outlets, grid));
     });
+    let flow_lengths = stack(|| {
+        let (first, rest) = work.split_at_mut(cells);
+        let (second, third) = rest.split_at_mut(cells);
+        accepted(jinxbanyan::flow_lengths(
+            side,
+            side,
+            codes,
+            accumulation,
+            &outlets,
+            first,
+            second,
+            third,
+            &mut grid,
+        ));
+    });
     let draw = stack(|| {
         let (path, drawn) = (&mut work, &mut [0]);
         let number = jinxbanyan::draw(side, side, codes, accumulation, &outlets, 0, 0, path, drawn);
@@ -54,6 +69,7 @@ fn stacks_of(side: usize) -> Vec<(&'static str, usize)> {
         ("accumulate", accumulate),
         ("check 14", check),
         ("subaccumulate", subaccumulate),
+        ("flow lengths", flow_lengths),
         ("draw", draw),
     ];
     for (name, dropping) in [("trace by stack", false), ("trace by stack, dropping", true)] {

@@ -1,7 +1,7 @@
 //! Markdown.
 
 use crate::grounds::KINDS;
-use crate::trials::{Figure, ROWS};
+use crate::trials::{Figure, Own, Row, ROWS};
 
 /// A table whose first columns hold words and the others numbers.
 pub fn table(words: usize, heads: &[&str], rows: &[Vec<String>]) {
@@ -46,21 +46,31 @@ pub struct Size {
     pub grounds: Vec<Vec<Figure>>,
 }
 
-/// What was aimed at on each ground, and what came of it.
+/// What was aimed at on each ground, beside plain C or other work of the library, and what came of
+/// it.
 pub fn aims(size: &Size) {
     println!("### {}: aims\n", size.name);
     let mut rows = Vec::new();
+    let mut aimed = |row: &Row, beside: String, kind: &str, most: f64, found: String| {
+        let most = format!("≤ {most:.1}");
+        rows.push(vec![row.work.to_string(), beside, kind.to_string(), most, found]);
+    };
     for (at, row) in ROWS.iter().enumerate() {
         for (((kind, _), aim), ground) in KINDS.iter().zip(row.aims).zip(&size.grounds) {
             if let Some(aim) = aim {
                 let figure = &ground[at];
                 let found = marked(figure, ratio(figure.library / figure.plain));
-                let words = [row.work, row.plain, kind].map(str::to_string);
-                rows.push([&words[..], &[format!("≤ {aim}"), found]].concat());
+                aimed(row, format!("plain C: {}", row.plain), kind, aim, found);
             }
         }
+        if let Some(Own { work, most }) = row.own {
+            let other = ROWS.iter().position(|row| row.work == work).expect("a row");
+            let (ground, kind) = (&size.grounds[0], KINDS[0].0);
+            let found = ratio(ground[at].library / ground[other].library);
+            aimed(row, format!("the library: {work}"), kind, most, found);
+        }
     }
-    table(3, &["work", "plain C does", "ground", "aim", "found"], &rows);
+    table(3, &["work", "beside", "ground", "aim", "found"], &rows);
 }
 
 /// The library's time divided by that of plain C and of the Rust implementation.

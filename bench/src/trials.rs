@@ -13,19 +13,39 @@ use second_reading::random::Random;
 use crate::grounds::{Field, SEED};
 use crate::measure::Clock;
 use drawing::drawing;
-use grids::{accumulating, checking, subaccumulating};
+use grids::{accumulating, checking, measuring, subaccumulating};
 use tracing::{recursion, tracing, Engine};
 
 pub use figures::Figure;
 pub use lent::{Sets, LIST};
-pub use rows::ROWS;
-pub use tracing::{MANY_STEPS, MOST_BY_RECURSION, MOST_STEPS};
+pub use rows::{Own, Row, ROWS};
+pub use tracing::MOST_BY_RECURSION;
+
+/// The Rust implementation walks from every cell, to trace and for flow lengths, where its walks
+/// have no more steps than this, all together.
+pub const MOST_STEPS: u64 = 4_000_000_000;
+
+/// Above so many steps it does so once, and traces with dropping alone.
+pub const MANY_STEPS: u64 = 20_000_000;
 
 /// How often each does its work; the best counts.
 #[derive(Clone, Copy)]
 pub struct Runs {
     pub quick: usize,
     pub rust: usize,
+}
+
+impl Runs {
+    /// How often the Rust implementation walks from every cell, so many steps in all.
+    fn walking(self, steps: u64) -> usize {
+        if steps <= MANY_STEPS {
+            self.rust
+        } else if steps <= MOST_STEPS {
+            self.rust.min(1)
+        } else {
+            0
+        }
+    }
 }
 
 /// The figures of one ground, in the order of the rows.
@@ -41,11 +61,15 @@ pub fn trial(field: &Field, runs: Runs, sets: &Sets, clock: &mut Clock) -> Vec<F
     };
     let outlet = largest(&accumulation, u32::MAX);
     let equation = checking(terrain, runs, clock, &mut figures);
-    let many = subaccumulating(terrain, &outlets(field, 256), runs, sets, clock);
+    let outlets = outlets(field, outlet, 256);
+    let many = subaccumulating(terrain, &outlets, runs, sets, clock);
+    let steps = steps_of(&sets.library.borrow().subaccumulation[..cells]);
+    let many_lengths = measuring(terrain, &outlets, steps, runs, sets, clock);
     let one = subaccumulating(terrain, &[outlet], runs, sets, clock);
+    let steps = steps_of(&accumulation);
+    let one_lengths = measuring(terrain, &[outlet], steps, runs, sets, clock);
     let plain_fill = one.plain;
-    figures.extend([one, many]);
-    let steps = accumulation.iter().map(|&n| u64::from(n)).sum();
+    figures.extend([one, many, one_lengths, many_lengths]);
     let (traced, start) =
         tracing(Engine::Stack, terrain, outlet, plain_fill, steps, runs, sets, clock);
     figures.extend(traced);
@@ -59,6 +83,12 @@ pub fn accepted(number: u32) {
     assert_eq!(number, 0, "an accepted call");
 }
 
+/// The steps of all walks together, their starts counted too, each down to the first outlet on it:
+/// as many walks pass a cell as its subaccumulation has cells.
+pub fn steps_of(subaccumulation: &[u32]) -> u64 {
+    subaccumulation.iter().map(|&n| u64::from(n)).sum()
+}
+
 /// The first cell with the greatest accumulation up to a limit.
 pub fn largest(accumulation: &[u32], limit: u32) -> u32 {
     let cells = (0..accumulation.len() as u32).rev();
@@ -66,9 +96,10 @@ pub fn largest(accumulation: &[u32], limit: u32) -> u32 {
     within.max_by_key(|&cell| accumulation[cell as usize]).expect("a cell")
 }
 
-fn outlets(field: &Field, count: usize) -> Vec<u32> {
+/// So many outlets, the mouth first, so that every cell is of a subwatershed.
+fn outlets(field: &Field, mouth: u32, count: usize) -> Vec<u32> {
     let mut random = Random::new(SEED);
-    let mut outlets = Vec::new();
+    let mut outlets = vec![mouth];
     while outlets.len() < count {
         let cell = random.below(field.cells());
         if field.codes[cell] != 0 && !outlets.contains(&(cell as u32)) {

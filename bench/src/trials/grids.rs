@@ -1,4 +1,4 @@
-//! Accumulation, its check, and subaccumulation.
+//! Accumulation, its check, subaccumulation, and flow lengths.
 
 use second_reading::entries::{self, Terrain};
 
@@ -77,5 +77,47 @@ pub fn subaccumulating(
     ]);
     let cells = terrain.codes.len();
     assert!(sets.all_alike(times[2], |lent| &lent.subaccumulation[..cells]));
+    whole(times[0], time(times[1]), times[2], cells)
+}
+
+/// The Rust implementation walks from every cell, so many steps in all.
+pub fn measuring(
+    terrain: Terrain,
+    outlets: &[u32],
+    steps: u64,
+    runs: Runs,
+    sets: &Sets,
+    clock: &mut Clock,
+) -> Figure {
+    let Terrain { rows, cols, codes, accumulation } = terrain;
+    let cells = codes.len();
+    let times = clock.race(vec![
+        Contestant::new(runs.quick, || {
+            let mut lent = sets.library.borrow_mut();
+            let [down_straight, down_diagonal, up_straight, up_diagonal] = lent.four_grids(cells);
+            accepted(jinxbanyan::flow_lengths(
+                rows,
+                cols,
+                codes,
+                accumulation,
+                outlets,
+                down_straight,
+                down_diagonal,
+                up_straight,
+                up_diagonal,
+            ));
+        }),
+        Contestant::new(runs.quick, || {
+            let mut lent = sets.plain.borrow_mut();
+            accepted(plain::flow_lengths(terrain, outlets, lent.four_grids(cells)));
+        }),
+        Contestant::new(runs.walking(steps), || {
+            let mut lent = sets.rust.borrow_mut();
+            let answer = entries::flow_lengths(terrain, outlets, lent.four_grids(cells));
+            assert!(answer.is_ok());
+        }),
+    ]);
+    assert!(sets.all_alike(times[2], |lent| &lent.work.read()[..3 * cells]));
+    assert!(sets.all_alike(times[2], |lent| &lent.places[..cells]));
     whole(times[0], time(times[1]), times[2], cells)
 }

@@ -1,6 +1,7 @@
 //! The places that the library, plain C and the Rust implementation are lent.
 
 use std::cell::RefCell;
+use std::ops::Range;
 
 use crate::measure::{Best, PAGE};
 
@@ -28,9 +29,18 @@ impl Paged {
         Paged { store: vec![1; count + 2 * PAGE / size_of::<u32>()], count }
     }
 
-    pub fn all(&mut self) -> &mut [u32] {
+    fn places(&self) -> Range<usize> {
         let first = self.store.as_ptr().align_offset(PAGE);
-        &mut self.store[first..first + self.count]
+        first..first + self.count
+    }
+
+    pub fn all(&mut self) -> &mut [u32] {
+        let places = self.places();
+        &mut self.store[places]
+    }
+
+    pub fn read(&self) -> &[u32] {
+        &self.store[self.places()]
     }
 }
 
@@ -44,6 +54,13 @@ impl Lent {
             places: vec![1; cells],
             bytes: vec![1; cells],
         })
+    }
+
+    /// Four grids of so many cells: three in the working space, and the places to draw in.
+    pub fn four_grids(&mut self, cells: usize) -> [&mut [u32]; 4] {
+        let (first, rest) = self.work.all().split_at_mut(cells);
+        let (second, rest) = rest.split_at_mut(cells);
+        [first, second, &mut rest[..cells], &mut self.places[..cells]]
     }
 }
 

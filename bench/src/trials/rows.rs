@@ -10,10 +10,17 @@ pub struct Row {
     pub unit: &'static str,
     /// The most that the library should take of plain C's time on each kind of large ground.
     pub aims: [Option<f64>; KINDS.len()],
+    /// The most that it should take of its own time for another work, on large fractal ground.
+    pub own: Option<Own>,
+}
+
+pub struct Own {
+    pub work: &'static str,
+    pub most: f64,
 }
 
 const fn row(work: &'static str, plain: &'static str, unit: &'static str) -> Row {
-    Row { work, plain, unit, aims: [None; KINDS.len()] }
+    Row { work, plain, unit, aims: [None; KINDS.len()], own: None }
 }
 
 /// On fractal ground, on the comb and on the serpent.
@@ -25,12 +32,22 @@ const fn aimed_on_fractal(aim: f64, row: Row) -> Row {
     Row { aims: [Some(aim), None, None, None], ..row }
 }
 
-pub const ROWS: [Row; 15] = [
+const fn within(most: f64, work: &'static str, row: Row) -> Row {
+    Row { own: Some(Own { work, most }), ..row }
+}
+
+pub const ROWS: [Row; 17] = [
     aimed([1.4, 1.1, 1.4], row("accumulate", "inflow count", "cell")),
     row("accumulate", "look-around", "cell"),
     aimed([1.2, 1.5, 1.5], row("check 14", "equation", "cell")),
     row("subaccumulate, 1 outlet", "equation, inflow count", "cell"),
     row("subaccumulate, 256 outlets", "equation, inflow count", "cell"),
+    within(3.0, "accumulate", row("flow lengths, 1 outlet", "equation, traversal", "cell")),
+    within(
+        1.2,
+        "flow lengths, 1 outlet",
+        row("flow lengths, 256 outlets", "equation, traversal", "cell"),
+    ),
     row("stack, no dropping, whole", "equation, inflow count, search", "cell"),
     aimed_on_fractal(1.3, row("stack, no dropping, search", "search", "visited cell")),
     row("stack, dropping, whole", "equation, inflow count, search", "cell"),

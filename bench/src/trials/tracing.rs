@@ -7,19 +7,13 @@ use second_reading::entries::{self, Terrain};
 use super::figures::{apart, time, touching, whole, Figure};
 use super::grids::subaccumulating;
 use super::lent::{Lent, Sets};
-use super::{accepted, largest, Runs};
+use super::{accepted, largest, steps_of, Runs, MANY_STEPS};
 use crate::grounds::Field;
 use crate::measure::{timed, watching, Clock, Contestant};
 use crate::plain;
 
 /// The most cells of a valley that recursion takes.
 pub const MOST_BY_RECURSION: u32 = 4096;
-
-/// The Rust implementation traces where its walks have no more steps than this, all together.
-pub const MOST_STEPS: u64 = 4_000_000_000;
-
-/// Above so many steps it does so once, with dropping.
-pub const MANY_STEPS: u64 = 20_000_000;
 
 #[derive(Clone, Copy, PartialEq, Eq)]
 pub enum Engine {
@@ -41,11 +35,8 @@ pub fn tracing(
 ) -> (Vec<Figure>, u32) {
     let Terrain { rows, cols, codes, accumulation } = terrain;
     let outlets = [outlet];
-    let rust_runs = if steps <= MANY_STEPS {
-        [runs.rust, runs.rust]
-    } else {
-        [0, usize::from(steps <= MOST_STEPS && runs.rust > 0)]
-    };
+    let walking = runs.walking(steps);
+    let rust_runs = [if steps <= MANY_STEPS { walking } else { 0 }, walking];
     let library = |dropping: bool, found: &Cell<[u32; 5]>| {
         let Lent { subaccumulation, starts, work, .. } = &mut *sets.library.borrow_mut();
         let work = work.all();
@@ -189,6 +180,6 @@ pub fn recursion(
     let runs = Runs { quick: runs.quick.max(7), rust };
     let sets = Sets::new(valley.cells());
     let plain_fill = subaccumulating(terrain, &[outlet], runs, &sets, clock).plain;
-    let steps = accumulation.iter().map(|&n| u64::from(n)).sum();
+    let steps = steps_of(&accumulation);
     tracing(Engine::Recursion, terrain, outlet, plain_fill, steps, runs, &sets, clock).0
 }
