@@ -95,4 +95,3 @@ module _ (g : Grid) (outlets : List ℕ) where
     pub are-left : (c : ℕ) → member c (take j outlets) ≡ true → traversal .left c ≡ true
     pub are-begun : (c : ℕ) → isOutlet g outlets c ≡ true → traversal .entered c ≡ true
         → member c (take (j + 1) outlets) ≡ true
-

@@ -5,6 +5,7 @@ use answers::in_numbers;
 ghost use mathlib.Core.Path.{_≡_};
 ghost use Rattle.ground.specs.Grid.{gridOf};
 ghost use Rattle.answers.specs.Entries.{catchment, Accumulates, checkNumber, Subaccumulates};
+ghost use Rattle.answers.specs.FlowLengths.{lengthGrids, TellsFlowLengths};
 ghost use Rattle.answers.specs.Tracings.{callOf, lent};
 ghost use Rattle.answers.specs.Drawing.{drawingOf};
 ghost use Rattle.spelling.specs.Content.{content};
@@ -50,6 +51,38 @@ pub extern "C" fn jb_subaccumulate(
         (now (subaccumulation .entry)) r (now (subaccumulation .exit)) ⌝ }
 {
     accumulation::subaccumulate(rows, cols, codes, accumulation, outlets, subaccumulation)
+}
+
+#[no_mangle]
+pub extern "C" fn jb_flow_lengths(
+    rows: usize,
+    cols: usize,
+    codes: &[u8],
+    accumulation: &[u32],
+    outlets: &[u32],
+    down_straight: &mut [u32],
+    down_diagonal: &mut [u32],
+    up_straight: &mut [u32],
+    up_diagonal: &mut [u32],
+) -> u32
+    ensures { λ r. ⌜ TellsFlowLengths
+        (catchment rows cols (now (codes .entry)) (now (accumulation .entry)) (now (outlets .entry)))
+        (lengthGrids (now («down_straight» .entry)) (now («down_diagonal» .entry)) (now («up_straight» .entry))
+        (now («up_diagonal» .entry))) r
+        (lengthGrids (now («down_straight» .exit)) (now («down_diagonal» .exit)) (now («up_straight» .exit))
+        (now («up_diagonal» .exit))) ⌝ }
+{
+    flowlengths::flow_lengths(
+        rows,
+        cols,
+        codes,
+        accumulation,
+        outlets,
+        down_straight,
+        down_diagonal,
+        up_straight,
+        up_diagonal,
+    )
 }
 
 // Stores straight, diagonal, paths, visited and dropped, and hands back the number.

@@ -69,8 +69,8 @@ fn edge_turn(
         let k = n;
         n += 1;
         if let Spot::On { row: r, col: c } = inflow_from(rows, cols, codes, row, col, k) {
-            let y = r * cols + c;
-            if marks[y] < MARK {
+            let at = r * cols + c;
+            if marks[at] < MARK {
                 return k;
             }
         }

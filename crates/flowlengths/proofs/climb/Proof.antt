@@ -1,6 +1,5 @@
--- `flowlengths::climb` meets its contract. The invariant: the traversal stands at a cell. The measure: cells without a length
--- count double, and the steps to the outlet once.
--- Assumes nothing.
+-- `flowlengths::climb` meets its contract. The invariant: the traversal stands at a cell. The measure: cells without a
+-- length count double, and the steps to the outlet once. Assumes nothing.
 use mathlib.Core.Path.{_≡_}
 use Prim.Native.Nat.{_+_, _*_, _%_, _^_}
 use native.Mathlib.Omega.{arith}
@@ -23,6 +22,14 @@ Inv-loop rows cols codes outlets steps ds₀ dd₀ us₀ ud₀ place o p₀ ds d
 abbrev μ-loop : tie.MeasureT-loop
 μ-loop rows cols codes outlets steps ds₀ dd₀ us₀ ud₀ place o p₀ ds dd us ud p =
     2 * blanks (rows * cols) ds dd + (getD ds (p .at) 0 + getD dd (p .at) 0 % 2 ^ 31)
+
+-- the function's start, seen from where the next turn is known
+abbrev start : tie.After-next-turn Inv-loop μ-loop → tie.Start Inv-loop μ-loop
+start e = e .before .before .before .before .before .before .before .before .before .before .before
+
+-- and that place, seen from where the way goes down
+abbrev turned : tie.Else2 Inv-loop μ-loop → tie.After-next-turn Inv-loop μ-loop
+turned d = d .before .before .before
 
 mul-index-of : tie.Need-mul-index-of Inv-loop μ-loop
 mul-index-of c = search needs
@@ -47,21 +54,22 @@ loop-holds c =
 next-turn-requires : tie.Need-next-turn-requires Inv-loop μ-loop
 next-turn-requires c κs =
     let s = c .before .before .before .before .before .before .before .before .before .before .pre in
-    let l = c .before .loop in
-    record { on = l .inv .on; has-marks = room-now (s .0) (l .inv) .down-diagonal; turn-small = l .inv .turn-small }
+    let l = c .before .loop .inv in
+    record { on = l .on; has-marks = room-now (s .0) l .down-diagonal; turn-small = l .turn-small }
 
 mul-if2 : tie.Need-mul-if2 Inv-loop μ-loop
 mul-if2 c =
-    let s = c .before .before .before .before .before .before .before .before .before .before .before .before .pre in
-    let l = c .before .before .before .loop in
-    omega (arith, x-inside (s .0) (l .inv), cells-few (s .0) (l .inv))
+    let e = c .before in
+    let s = start e .pre in
+    let l = e .before .before .loop .inv in
+    omega (arith, x-inside (s .0) l, cells-few (s .0) l)
 
 slice-read-if2 : tie.Need-slice-read-if2 Inv-loop μ-loop
 slice-read-if2 c =
-    let s =
-    c .before .before .before .before .before .before .before .before .before .before .before .before .before .pre in
-    let l = c .before .before .before .before .loop in
-    omega (arith, x-inside (s .0) (l .inv), room-now (s .0) (l .inv) .down-diagonal)
+    let e = c .before .before in
+    let s = start e .pre in
+    let l = e .before .before .loop .inv in
+    omega (arith, x-inside (s .0) l, room-now (s .0) l .down-diagonal)
 
 same-length : tie.Need-same-length Inv-loop μ-loop
 same-length c = c .before .before .before .before .before .loop .inv .kept .down-straight .same-length
@@ -77,75 +85,71 @@ same-length-4 c = c .before .before .before .before .before .loop .inv .kept .up
 
 returns : tie.Need-returns Inv-loop μ-loop
 returns c =
-    let s =
-    c .before .before .before .before .before .before .before .before .before .before .before .before .before .before .pre in
-    let l = c .before .before .before .before .before .loop in
-    (resting-on (s .0) (l .inv) (c .before .before .before .next-turn .ensures) (c .before .before .if1 .taken)
-    (s .1 .0 .0) (c .if2 .taken), l .inv .kept)
+    let e = c .before .before .before in
+    let s = start e .pre in
+    let l = e .before .before .loop .inv in
+    (resting-on (s .0) l (e .next-turn .ensures) (c .before .before .if1 .taken) (s .1 .0 .0) (c .if2 .taken), l .kept)
 
 below-requires : tie.Need-below-requires Inv-loop μ-loop
 below-requires c κs =
-    let s =
-    c .before .before .before .before .before .before .before .before .before .before .before .before .before .before .pre in
-    let l = c .before .before .before .before .before .loop in
-    (l .inv .on, has-next (s .0) (l .inv) (c .before .before .before .next-turn .ensures)
-    (c .before .before .if1 .taken) (c .if2 .left))
+    let e = turned c in
+    let s = start e .pre in
+    let l = e .before .before .loop .inv in
+    (l .on, has-next (s .0) l (e .next-turn .ensures) (c .before .before .if1 .taken) (c .if2 .left))
 
 shared-slice-read-step-of : tie.Need-shared-slice-read-step-of Inv-loop μ-loop
 shared-slice-read-step-of c =
-    let s =
-    c .before .before .before .before .before .before .before .before .before .before .before .before .before .before .before .before .before .before .pre in
-    let l = c .before .before .before .before .before .before .before .before .before .loop in
-    omega (arith, x-inside (s .0) (l .inv), s .0 .grid .has-codes)
+    let e = c .before .before .before .before .before .before .before in
+    let s = start e .pre in
+    let l = e .before .before .loop .inv in
+    omega (arith, x-inside (s .0) l, s .0 .grid .has-codes)
 
 step-of-requires : tie.Need-step-of-requires Inv-loop μ-loop
 step-of-requires c κs = search needs
 
 give-up-requires : tie.Need-give-up-requires Inv-loop μ-loop
 give-up-requires c κs =
-    let s =
-    c .before .before .before .before .before .before .before .before .before .before .before .before .before .before .before .before .before .before .before .pre in
-    let l = c .before .before .before .before .before .before .before .before .before .before .loop in
-    let w = c .before .before .before .before .below .ensures in
-    (countable-up (s .0) (l .inv)
-    (c .before .before .before .before .before .before .before .before .next-turn .ensures)
-    (c .before .before .before .before .before .before .before .if1 .taken)
-    (c .before .before .before .before .before .if2 .left) (w .flows), diagonal-up (s .0) (l .inv)
-    (c .before .before .before .before .before .before .before .before .next-turn .ensures)
-    (c .before .before .before .before .before .before .before .if1 .taken)
-    (c .before .before .before .before .before .if2 .left) (w .flows))
+    let d = c .before .before .before .before .before in
+    let e = turned d in
+    let s = start e .pre in
+    let l = e .before .before .loop .inv in
+    let w = c .before .before .before .before .below .ensures .flows in (
+      countable-up (s .0) l (e .next-turn .ensures) (d .before .before .if1 .taken) (d .if2 .left) w,
+      diagonal-up (s .0) l (e .next-turn .ensures) (d .before .before .if1 .taken) (d .if2 .left) w,
+    )
 
 loop-less : tie.Need-loop-less Inv-loop μ-loop
 loop-less c =
-    let s =
-    c .before .before .before .before .before .before .before .before .before .before .before .before .before .before .before .before .before .before .before .before .before .before .before .before .pre in
-    let l =
-    c .before .before .before .before .before .before .before .before .before .before .before .before .before .before .before .loop in
-    let w = c .before .before .before .before .before .before .before .before .before .below .ensures in
-    omega (arith, depth-less (s .0) (l .inv)
-    (c .before .before .before .before .before .before .before .before .before .before .before .before .before .next-turn .ensures) (c .before .before .before .before .before .before .before .before .before .before .before .before .if1 .taken) (c .before .before .before .before .before .before .before .before .before .before .if2 .left) (w .flows))
+    let d = c .before .before .before .before .before .before .before .before .before .before in
+    let e = turned d in
+    let s = start e .pre in
+    let l = e .before .before .loop .inv in
+    omega (
+      arith,
+      depth-less (s .0) l (e .next-turn .ensures) (d .before .before .if1 .taken) (d .if2 .left)
+          (c .before .before .before .before .before .before .before .before .before .below .ensures .flows),
+    )
 
 loop-again : tie.Need-loop-again Inv-loop μ-loop
 loop-again c =
-    let s =
-    c .before .before .before .before .before .before .before .before .before .before .before .before .before .before .before .before .before .before .before .before .before .before .before .before .pre in
-    let l =
-    c .before .before .before .before .before .before .before .before .before .before .before .before .before .before .before .loop in
+    let d = c .before .before .before .before .before .before .before .before .before .before in
+    let e = turned d in
+    let s = start e .pre in
+    let l = e .before .before .loop .inv in
     let w = c .before .before .before .before .before .before .before .before .before .below .ensures in
-    standing-down (s .0) (l .inv)
-    (c .before .before .before .before .before .before .before .before .before .before .before .before .before .next-turn .ensures) (c .before .before .before .before .before .before .before .before .before .before .before .before .if1 .taken) (c .before .before .before .before .before .before .before .before .before .before .if2 .left) (w .flows) (w .on) (w .is-turn) (c .before .before .before .before .before .step-of .ensures) (c .before .before .before .before .give-up .ensures)
+    standing-down (s .0) l (e .next-turn .ensures) (d .before .before .if1 .taken) (d .if2 .left) (w .flows) (w .on)
+    (w .is-turn) (c .before .before .before .before .before .step-of .ensures) (c .before .before .before .before .give-up .ensures)
 
 moved-requires : tie.Need-moved-requires Inv-loop μ-loop
 moved-requires c κs =
-    let s = c .before .before .before .before .before .before .before .before .before .before .before .before .pre in
-    let l = c .before .before .before .loop in
-    (l .inv .on, (c .if1 .left, has-neighbour (s .0) (l .inv) (c .before .next-turn .ensures) (c .if1 .left)))
+    let e = c .before in
+    let s = start e .pre in
+    let l = e .before .before .loop .inv in
+    (l .on, (c .if1 .left, has-neighbour (s .0) l (e .next-turn .ensures) (c .if1 .left)))
 
 shared-slice-read-step-of-2 : tie.Need-shared-slice-read-step-of-2 Inv-loop μ-loop
 shared-slice-read-step-of-2 c =
-    let s =
-    c .before .before .before .before .before .before .before .before .before .before .before .before .before .before .before .before .pre in
-    let l = c .before .before .before .before .before .before .before .loop in
+    let s = start (c .before .before .before .before .before) .pre in
     omega (arith, s .0 .grid .has-codes, at-inside (c .before .before .before .moved .ensures .on))
 
 step-of-requires-2 : tie.Need-step-of-requires-2 Inv-loop μ-loop
@@ -153,41 +157,32 @@ step-of-requires-2 c κs = search needs
 
 give-down-requires : tie.Need-give-down-requires Inv-loop μ-loop
 give-down-requires c κs =
-    let s =
-    c .before .before .before .before .before .before .before .before .before .before .before .before .before .before .before .before .before .pre in
-    let l = c .before .before .before .before .before .before .before .before .loop in
+    let u = c .before .before .before .before .before in
+    let e = u .before in
+    let s = start e .pre in
+    let l = e .before .before .loop .inv in
     let w = c .before .before .before .before .moved .ensures in
-    countable-down (s .0) (l .inv) (c .before .before .before .before .before .before .next-turn .ensures)
-    (c .before .before .before .before .before .if1 .left) (w .is-there)
+    countable-down (s .0) l (e .next-turn .ensures) (u .if1 .left) (w .is-there)
 
 loop-less-2 : tie.Need-loop-less-2 Inv-loop μ-loop
 loop-less-2 c =
-    let s =
-    c .before .before .before .before .before .before .before .before .before .before .before .before .before .before .before .before .before .before .before .before .before .before .pre in
-    let l =
-    c .before .before .before .before .before .before .before .before .before .before .before .before .before .loop in
+    let u = c .before .before .before .before .before .before .before .before .before .before in
+    let e = u .before in
+    let s = start e .pre in
+    let l = e .before .before .loop .inv in
     let w = c .before .before .before .before .before .before .before .before .before .moved .ensures in
-    omega (arith, fewer-blanks (s .0) (l .inv)
-    (c .before .before .before .before .before .before .before .before .before .before .before .next-turn .ensures)
-    (c .before .before .before .before .before .before .before .before .before .before .if1 .left) (w .is-there)
-    (c .before .before .before .before .before .step-of2 .ensures)
-    (c .before .before .before .before .give-down .ensures), depth-more (s .0) (l .inv)
-    (c .before .before .before .before .before .before .before .before .before .before .before .next-turn .ensures)
-    (c .before .before .before .before .before .before .before .before .before .before .if1 .left) (w .is-there)
-    (c .before .before .before .before .before .step-of2 .ensures)
-    (c .before .before .before .before .give-down .ensures))
+    let q = c .before .before .before .before .before .step-of2 .ensures in
+    let f = c .before .before .before .before .give-down .ensures in
+    omega (arith, fewer-blanks (s .0) l (e .next-turn .ensures) (u .if1 .left) (w .is-there) q f, depth-more (s .0) l (e .next-turn .ensures) (u .if1 .left) (w .is-there) q f)
 
 loop-again-2 : tie.Need-loop-again-2 Inv-loop μ-loop
 loop-again-2 c =
-    let s =
-    c .before .before .before .before .before .before .before .before .before .before .before .before .before .before .before .before .before .before .before .before .before .before .pre in
-    let l =
-    c .before .before .before .before .before .before .before .before .before .before .before .before .before .loop in
+    let u = c .before .before .before .before .before .before .before .before .before .before in
+    let e = u .before in
+    let s = start e .pre in
+    let l = e .before .before .loop .inv in
     let w = c .before .before .before .before .before .before .before .before .before .moved .ensures in
-    standing-up (s .0) (l .inv)
-    (c .before .before .before .before .before .before .before .before .before .before .before .next-turn .ensures)
-    (c .before .before .before .before .before .before .before .before .before .before .if1 .left) (w .is-there)
-    (c .before .before .before .before .before .step-of2 .ensures)
+    standing-up (s .0) l (e .next-turn .ensures) (u .if1 .left) (w .is-there) (c .before .before .before .before .before .step-of2 .ensures)
     (c .before .before .before .before .give-down .ensures) (w .on) (w .is-turn)
 
 pub climb-spec : {M : Type 1} → statement M

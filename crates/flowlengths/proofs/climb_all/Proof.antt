@@ -33,23 +33,27 @@ climb-requires c κs =
     let s =
     c .before .before .before .before .before .before .before .before .before .before .before .before .before .before .pre in
     let l = c .before .before .before .before .before .before .loop .inv in
-    (kept-climbable (s .0) (l .2), ((c .before .before .before .before .before .loop-test .taken,
-    c .before .before .before .before .before .before .before .offsets .ensures), l .1))
+    (kept-climbable (s .0) (l .2), ((c .before .before .before .before .before .loop-test .taken, c .before .before .before .before .before .before .before .offsets .ensures), l .1))
 
 add-j : tie.Need-add-j Inv-loop μ-loop
 add-j c =
-    omega (arith,
-    c .before .before .before .before .before .before .before .before .before .before .before .before .before .before .loop-test .taken, c .before .before .before .before .before .before .before .before .before .before .before .before .before .before .before .before .before .before .before .before .before .before .before .pre .0 .few-outlets)
+    let t = c .before .before .before .before .before .before .before .before in
+    omega (arith, t .before .before .before .before .before .before .loop-test .taken, t .before .before .before .before .before .before .before .before .before .before .before .before .before .before .before .pre .0 .few-outlets)
 
 loop-less : tie.Need-loop-less Inv-loop μ-loop
 loop-less c =
-    omega (arith,
-    c .before .before .before .before .before .before .before .before .before .before .before .before .before .before .loop-test .taken)
+    omega (
+      arith,
+      c .before .before .before .before .before .before .before .before .before .before .before .before .before .before .loop-test .taken,
+    )
 
 loop-again : tie.Need-loop-again Inv-loop μ-loop
 loop-again c =
-    (omega (arith,
-    c .before .before .before .before .before .before .before .before .before .before .before .before .before .before .loop-test .taken), c .before .before .before .before .before .before .before .before .climb .ensures .0, kept-on (c .before .before .before .before .before .before .before .before .before .before .before .before .before .before .before .loop .inv .2) (c .before .before .before .before .before .before .before .before .climb .ensures .1))
+    let t = c .before .before .before .before .before .before .before .before in (
+      omega (arith, t .before .before .before .before .before .before .loop-test .taken),
+      t .climb .ensures .0,
+      kept-on (t .before .before .before .before .before .before .before .loop .inv .2) (t .climb .ensures .1),
+    )
 
 same-length : tie.Need-same-length Inv-loop μ-loop
 same-length c = c .before .loop .inv .2 .down-straight .same-length

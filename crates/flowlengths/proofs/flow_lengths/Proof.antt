@@ -3,8 +3,8 @@
 use mathlib.Core.Path.{refl}
 use mathlib.Core.Logic.{inl}
 use borrow.Author.Needs.{needs}
-use Rattle.answers.specs.Entries.{catchment}
-use Rattle.answers.specs.FlowLengths.{lengthGrids}
+use Rattle.answers.specs.Entries.{Catchment, catchment}
+use Rattle.answers.specs.FlowLengths.{LengthGrids, lengthGrids}
 use Rattle.flowlengths.proofs.Results.{refused, climbable, told}
 use Rattle.flowlengths.proofs.flow_lengths.Statement.{statement}
 use Rattle.flowlengths.proofs.flow_lengths.Tie as tie
@@ -15,21 +15,24 @@ slice-aggregate-outlets-number c = search needs
 outlets-number-requires : tie.Need-outlets-number-requires
 outlets-number-requires c κs = inl refl
 
+-- what is lent, seen from where the number is known
+abbrev called : tie.After-outlets-number → Catchment
+called n = let a = n .before .before .before .before .before .before .before .before .before .args in
+    catchment (a .rows) (a .cols) (a .codes .now) (a .accumulation .now) (a .outlets .now)
+
+abbrev lent : tie.After-outlets-number → LengthGrids
+lent n = let a = n .before .before .before .before .before .before .before .before .before .args in
+    lengthGrids (a .down-straight .now) (a .down-diagonal .now) (a .up-straight .now) (a .up-diagonal .now)
+
 returns : tie.Need-returns
 returns c =
-    let a = c .before .before .before .before .before .before .before .before .before .before .args in
-    refused (catchment (a .rows) (a .cols) (a .codes .now) (a .accumulation .now) (a .outlets .now))
-    (lengthGrids (a .down-straight .now) (a .down-diagonal .now) (a .up-straight .now) (a .up-diagonal .now))
-    (c .before .outlets-number .ensures) (c .if1 .taken)
+    let n = c .before in
+    refused (called n) (lent n) (n .outlets-number .ensures) (c .if1 .taken)
 
 give-all-requires : tie.Need-give-all-requires
 give-all-requires c κs =
-    let a =
-    c .before .before .before .before .before .before .before .before .before .before .before .before .before .before .args in
-    climbable (catchment (a .rows) (a .cols) (a .codes .now) (a .accumulation .now) (a .outlets .now))
-    (lengthGrids (a .down-straight .now) (a .down-diagonal .now) (a .up-straight .now) (a .up-diagonal .now))
-    (c .before .before .before .before .before .outlets-number .ensures)
-    (c .before .before .before .before .if1 .left)
+    let n = c .before .before .before .before .before in
+    climbable (called n) (lent n) (n .outlets-number .ensures) (c .before .before .before .before .if1 .left)
 
 same-length : tie.Need-same-length
 same-length c = search needs
@@ -45,11 +48,9 @@ same-length-4 c = search needs
 
 returns-2 : tie.Need-returns-2
 returns-2 c =
-    let a =
-    c .before .before .before .before .before .before .before .before .before .before .before .before .before .before .before .before .before .before .before .before .before .before .before .args in
-    told (catchment (a .rows) (a .cols) (a .codes .now) (a .accumulation .now) (a .outlets .now))
-    (lengthGrids (a .down-straight .now) (a .down-diagonal .now) (a .up-straight .now) (a .up-diagonal .now))
-    (c .before .before .before .before .before .before .before .before .before .before .before .before .before .before .outlets-number .ensures) (c .before .before .before .before .before .before .before .before .before .before .before .before .before .if1 .left) (c .before .before .before .before .before .before .before .before .give-all .ensures)
+    let n =
+    c .before .before .before .before .before .before .before .before .before .before .before .before .before .before in
+    told (called n) (lent n) (n .outlets-number .ensures) (c .before .before .before .before .before .before .before .before .before .before .before .before .before .if1 .left) (c .before .before .before .before .before .before .before .before .give-all .ensures)
 
 pub flow-lengths-spec : {M : Type 1} → statement M
 flow-lengths-spec =

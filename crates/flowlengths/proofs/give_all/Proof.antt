@@ -18,20 +18,17 @@ prepare-requires c κs =
 
 climb-all-requires : tie.Need-climb-all-requires
 climb-all-requires c κs =
-    let s =
-    c .before .before .before .before .before .before .before .before .before .before .before .before .before .before .before .before .before .before .before .before .before .before .before .pre in
-    let p =
-    c .before .before .before .before .before .before .before .before .before .before .before .before .prepare .ensures in
-    (kept-climbable s (p .kept), resting-none s p)
+    let p = c .before .before .before .before .before .before .before .before .before .before .before .before in
+    let s = p .before .before .before .before .before .before .before .before .before .before .before .pre in
+    (kept-climbable s (p .prepare .ensures .kept), resting-none s (p .prepare .ensures))
 
 mark-requires : tie.Need-mark-requires
 mark-requires c κs =
-    let s =
-    c .before .before .before .before .before .before .before .before .before .before .before .before .before .before .before .before .before .before .before .before .before .before .before .before .before .before .before .before .before .before .before .before .before .pre in
-    let p =
-    c .before .before .before .before .before .before .before .before .before .before .before .before .before .before .before .before .before .before .before .before .before .before .prepare .ensures in
-    (kept-room (s .room) (kept-on (p .kept)
-    (c .before .before .before .before .before .before .before .before .before .climb-all .ensures .1)) .down-diagonal, outlets-within s)
+    let a = c .before .before .before .before .before .before .before .before .before in
+    let p = a .before .before .before .before .before .before .before .before .before .before .before .before .before in
+    let s = p .before .before .before .before .before .before .before .before .before .before .before .pre in
+    let k = kept-on (p .prepare .ensures .kept) (a .climb-all .ensures .1) in
+    (kept-room (s .room) k .down-diagonal, outlets-within s)
 
 same-length : tie.Need-same-length
 same-length c = search needs
@@ -47,12 +44,10 @@ same-length-4 c = search needs
 
 returns : tie.Need-returns
 returns c =
-    let s =
-    c .before .before .before .before .before .before .before .before .before .before .before .before .before .before .before .before .before .before .before .before .before .before .before .before .before .before .before .before .before .before .before .before .before .before .before .before .pre in
-    let p =
-    c .before .before .before .before .before .before .before .before .before .before .before .before .before .before .before .before .before .before .before .before .before .before .before .before .before .prepare .ensures in
-    lengths-over s
-    (c .before .before .before .before .before .before .before .before .before .before .before .before .climb-all .ensures .0) (c .before .before .mark .ensures) (kept-on (p .kept) (c .before .before .before .before .before .before .before .before .before .before .before .before .climb-all .ensures .1))
+    let a = c .before .before .before .before .before .before .before .before .before .before .before .before in
+    let p = a .before .before .before .before .before .before .before .before .before .before .before .before .before in
+    lengths-over (p .before .before .before .before .before .before .before .before .before .before .before .pre) (a .climb-all .ensures .0) (c .before .before .mark .ensures)
+    (kept-on (p .prepare .ensures .kept) (a .climb-all .ensures .1))
 
 pub give-all-spec : {M : Type 1} → statement M
 give-all-spec =

@@ -37,12 +37,12 @@ inflow-from-requires c κs = c .before .before .before .before .pre .on .on
 enum-known-r : tie.Need-enum-known-r Inv-loop μ-loop
 enum-known-r c = search needs
 
-mul-y : tie.Need-mul-y Inv-loop μ-loop
-mul-y c =
+mul-at : tie.Need-mul-at Inv-loop μ-loop
+mul-at c =
     omega (arith, inside c, cells-small (c .before .before .before .before .before .before .before .before .pre .on))
 
-add-y : tie.Need-add-y Inv-loop μ-loop
-add-y c =
+add-at : tie.Need-add-at Inv-loop μ-loop
+add-at c =
     omega (arith, inside c, cells-small (c .before .before .before .before .before .before .before .before .pre .on))
 
 mul-if1 : tie.Need-mul-if1 Inv-loop μ-loop
@@ -51,8 +51,11 @@ mul-if1 c =
 
 shared-slice-read-if1 : tie.Need-shared-slice-read-if1 Inv-loop μ-loop
 shared-slice-read-if1 c =
-    omega (arith, inside (c .before),
-    c .before .before .before .before .before .before .before .before .before .pre .has-marks)
+    omega (
+      arith,
+      inside (c .before),
+      c .before .before .before .before .before .before .before .before .before .pre .has-marks,
+    )
 
 returns : tie.Need-returns Inv-loop μ-loop
 returns c =
@@ -98,8 +101,8 @@ edge-turn-spec =
     add-n
     inflow-from-requires
     enum-known-r
-    mul-y
-    add-y
+    mul-at
+    add-at
     mul-if1
     shared-slice-read-if1
     returns

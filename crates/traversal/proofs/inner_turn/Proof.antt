@@ -32,8 +32,11 @@ element-copy-out-y c = search needs
 add-y : tie.Need-add-y Inv-loop μ-loop
 add-y c =
     let s = c .before .before .before .before .before .pre in
-    omega (arith, number-fits (s .turning .on) (c .before .loop-test .taken)
-    (inner-has (s .turning .on) (s .inner) (c .before .loop-test .taken) .1))
+    omega (
+      arith,
+      number-fits (s .turning .on) (c .before .loop-test .taken)
+          (inner-has (s .turning .on) (s .inner) (c .before .loop-test .taken) .1),
+    )
 
 add-y-2 : tie.Need-add-y-2 Inv-loop μ-loop
 add-y-2 c = search needs
@@ -41,8 +44,11 @@ add-y-2 c = search needs
 sub-y : tie.Need-sub-y Inv-loop μ-loop
 sub-y c =
     let s = c .before .before .before .before .before .pre in
-    omega (arith, number-is (s .turning .on) (c .before .loop-test .taken)
-    (inner-has (s .turning .on) (s .inner) (c .before .loop-test .taken) .1))
+    omega (
+      arith,
+      number-is (s .turning .on) (c .before .loop-test .taken)
+          (inner-has (s .turning .on) (s .inner) (c .before .loop-test .taken) .1),
+    )
 
 neighbour-at-requires : tie.Need-neighbour-at-requires Inv-loop μ-loop
 neighbour-at-requires c κs = search needs
@@ -50,20 +56,30 @@ neighbour-at-requires c κs = search needs
 shared-slice-read-if1 : tie.Need-shared-slice-read-if1 Inv-loop μ-loop
 shared-slice-read-if1 c =
     let s = c .before .before .before .before .before .before .before .pre in
-    omega (arith, inner-inside (s .turning .on) (s .inner) (c .before .before .before .loop-test .taken),
-    s .turning .on .on .grid .has-codes)
+    omega (
+      arith,
+      inner-inside (s .turning .on) (s .inner) (c .before .before .before .loop-test .taken),
+      s .turning .on .on .grid .has-codes,
+    )
 
 mul-if2 : tie.Need-mul-if2 Inv-loop μ-loop
 mul-if2 c =
     let s = c .before .before .before .before .before .before .before .before .pre in
-    omega (arith, inner-inside (s .turning .on) (s .inner) (c .before .before .before .before .loop-test .taken),
-    cells-small (s .turning .on))
+    omega (
+      arith,
+      inner-inside (s .turning .on) (s .inner) (c .before .before .before .before .loop-test .taken),
+      cells-small (s .turning .on),
+    )
 
 shared-slice-read-if2 : tie.Need-shared-slice-read-if2 Inv-loop μ-loop
 shared-slice-read-if2 c =
     let s = c .before .before .before .before .before .before .before .before .before .pre in
-    omega (arith, inner-inside (s .turning .on) (s .inner)
-    (c .before .before .before .before .before .loop-test .taken), s .turning .has-marks)
+    omega (
+      arith,
+      inner-inside (s .turning .on) (s .inner)
+          (c .before .before .before .before .before .loop-test .taken),
+      s .turning .has-marks,
+    )
 
 returns : tie.Need-returns Inv-loop μ-loop
 returns c =

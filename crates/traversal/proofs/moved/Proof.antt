@@ -25,8 +25,11 @@ sub-row c =
 add-col : tie.Need-add-col
 add-col c =
     let s = c .before .before .before .before .before .before in
-    omega (arith, col-fits (s .pre .0) (s .pre .1 .0) (s .pre .1 .1)
-    (c .before .before .before .before .neighbour-at .ensures))
+    omega (
+      arith,
+      col-fits (s .pre .0) (s .pre .1 .0) (s .pre .1 .1)
+          (c .before .before .before .before .neighbour-at .ensures),
+    )
 
 sub-col : tie.Need-sub-col
 sub-col c =
