@@ -1,7 +1,7 @@
 -- The upstream length of a cell from its tributaries that are left: one more is left, or all are.
 -- Assumes nothing.
 use mathlib.Core.Path.{_≡_, refl, sym, ap, ap₂, _∙_, subst}
-use mathlib.Core.Bool.{Bool, true, false, cond, true≢false}
+use mathlib.Core.Bool.{Bool, true, false}
 use mathlib.Core.Logic.{_⊎_, inl, inr}
 use mathlib.Core.List.{List}
 use mathlib.Core.Option.{some}
@@ -13,7 +13,7 @@ use Rattle.lengths.specs.Rule.{counts, plusStep, isShorter}
 use Rattle.lengths.specs.Lengths.{squareCells}
 use Rattle.lengths.proofs.Laws.{square-laws, square-same, irrefl, sum-no-shorter}
 use Rattle.ground.specs.Compass.{Dir, opposite, stepOf}
-use Rattle.ground.specs.Grid.{Grid, Link, ground, next}
+use Rattle.ground.specs.Grid.{Grid, ground, next}
 use Rattle.ground.specs.Accumulation.{agrees}
 use Rattle.ground.specs.Subwatershed.{isOutlet}
 use Rattle.ground.specs.FlowLengths.{upstreamLength}
@@ -104,7 +104,8 @@ module _ (g : Grid) (outlets : List ℕ) where
               flows = f .flows ∙ ap (λ (d : Dir). some (record { cell = c; step = d })) s;
               no-outlet = f .no-outlet;
             } in
-            ap (isShorter l) (f .is-length ∙ ap (λ (d : Dir). plusStep (upstreamLength g outlets (f .cell)) (stepOf d)) s)
+            ap (isShorter l) (f .is-length ∙ ap (λ (d : Dir). plusStep (upstreamLength g outlets (f .cell))
+            (stepOf d)) s)
             ∙ r .bound (opposite (f .step)) (f .cell) u (all (opposite (f .step)) (f .cell) u)
 
         no-more : (l ≡ counts 0 0) ⊎ FromLeft g outlets left c l → isShorter (upstreamLength g outlets c) l ≡ false

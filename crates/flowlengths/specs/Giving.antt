@@ -1,22 +1,19 @@
--- The four grids while the traversal goes through the subwatersheds. A cell has its downstream length when it is entered;
--- its upstream length grows with each tributary that is left. An outlet's mark stands in the grid of diagonal steps
--- downstream. Assumes nothing.
+-- The four grids while the traversal goes through the subwatersheds. A cell has its downstream length when it is
+-- entered; its upstream length grows with each tributary that is left. An outlet's mark stands in the grid of diagonal
+-- steps downstream. Assumes nothing.
 use mathlib.Core.Path.{_≡_}
-use mathlib.Core.Bool.{Bool, true, false, cond}
+use mathlib.Core.Bool.{Bool, true, false}
 use mathlib.Core.Logic.{_⊎_}
 use mathlib.Core.List.{List}
 use mathlib.Core.Option.{some}
-use Prim.Native.Nat.{ℕ, _+_, _*_, _%_, _≤_, _<_, _^_}
-use lib.ListN.{length, getD, take, set}
+use Prim.Native.Nat.{ℕ, _+_, _*_, _≤_, _<_, _^_}
+use lib.ListN.{length, getD, take}
 use lib.Dec.{eqb}
 use Rattle.lists.specs.Lists.{member, howMany}
-use Rattle.lists.specs.Slices.{Kept}
-use Rattle.lengths.specs.declared.Step.{Step}
 use Rattle.lengths.specs.declared.Length.{Length}
 use Rattle.lengths.specs.Rule.{counts, plusStep, isShorter}
 use Rattle.ground.specs.Compass.{Dir, opposite, stepOf}
 use Rattle.ground.specs.Grid.{Grid, gridOf, cellCount, ground, next}
-use Rattle.ground.specs.Walk.{At}
 use Rattle.ground.specs.Accumulation.{agrees}
 use Rattle.ground.specs.Subwatershed.{isOutlet}
 use Rattle.ground.specs.FlowLengths.{upstreamLength, arrival}
@@ -85,7 +82,8 @@ module _ (g : Grid) (outlets : List ℕ) where
     pub traversal : Traversal (next g) (isOutlet g outlets)
     pub given : Given traversal lent
     pub are-left : (c : ℕ) → member c (take j outlets) ≡ true → traversal .left c ≡ true
-    pub are-begun : (c : ℕ) → isOutlet g outlets c ≡ true → traversal .entered c ≡ true → member c (take j outlets) ≡ true
+    pub are-begun : (c : ℕ) → isOutlet g outlets c ≡ true → traversal .entered c ≡ true → member c (take j outlets) ≡
+        true
 
   -- and the next is begun, and the traversal at one of its cells
   pub record Climbing (j x k : ℕ) (lent : LengthGrids) : Type 0 where

@@ -1,9 +1,9 @@
-// Flow lengths: of every cell of a subwatershed, downstream to its outlet and upstream to the farthest cell above it, in
-// no memory but the four grids.
+// Flow lengths: of every cell of a subwatershed, downstream to its outlet and upstream to the farthest cell above it,
+// in no memory but the four grids.
 //
 // A cell takes its downstream length from the cell below when it is entered, and gives its upstream length to the cell
-// below when it is left. Marks at the outlets keep the traversal of one subwatershed out of the next. Below the entry, ds
-// and dd are the grids of straight and diagonal steps downstream, us and ud those upstream.
+// below when it is left. Marks at the outlets keep the traversal of one subwatershed out of the next. Below the entry,
+// ds and dd are the grids of straight and diagonal steps downstream, us and ud those upstream.
 use checks::outlets_number;
 use downstream::offsets;
 use lengthgrids::give_down;

@@ -21,7 +21,7 @@ module _ {S : Type 0} (𝓛 : Lengths S) where
   unfoldable pub longerOf : Len → Len → Len
   longerOf l m = cond (shorter l m) m l
 
-  -- how far what lies above a cell reaches: 0 if nothing does, else the greatest over the inflows, outlets left out, of
+  -- how far what lies above a cell reaches: 0 at a headwater, else the greatest over the inflows, outlets left out, of
   -- theirs plus the step
   abbrev pub reach : Forest S → Len
   reach bare = start
@@ -37,8 +37,7 @@ abbrev pub throughLength : FlowLengths → Length
 throughLength f = counts (f .down .straight + f .up .straight) (f .down .diagonal + f .up .diagonal)
 
 module _ (g : Grid) (outlets : List ℕ) where
-  -- 02, U1: the upstream length is 0 at a headwater, else the greatest over inflows, outlets left out, of theirs plus the
-  -- step
+  -- 02, U1: the upstream length
   unfoldable pub upstreamLength : ℕ → Length
   upstreamLength c = reach squares (forest g outlets c)
 

@@ -1,18 +1,19 @@
 -- The upstream length that a cell is given, by what the comparison says.
 -- Assumes nothing.
-use mathlib.Core.Path.{_≡_, refl, sym, ap, _∙_}
-use mathlib.Core.Bool.{Bool, true, false, cond}
+use mathlib.Core.Path.{_≡_, sym, ap, _∙_}
+use mathlib.Core.Bool.{true, false}
 use mathlib.Core.List.{List}
 use Prim.Native.Nat.{ℕ}
 use lib.ListN.{set}
 use Rattle.lengths.specs.declared.Step.{Step}
 use Rattle.lengths.specs.declared.Length.{Length}
 use Rattle.lengths.specs.declared.Order.{Order}
-use Rattle.lengths.specs.declared.Order.the-variants.{Shorter, Same, Longer}
+use Rattle.lengths.specs.declared.Order.the-variants.{Shorter}
 use Rattle.lengths.specs.Rule.{plusStep, compared, saysShorter, isShorter}
 use Rattle.lengthgrids.specs.Grids.{lengthAbove, GivesUp}
 
-module _ (x y : ℕ) (step : Step) (us ud : List ℕ) {longer : Length} (is-longer : longer ≡ plusStep (lengthAbove us ud x) step)
+module _ (x y : ℕ) (step : Step) (us ud : List ℕ) {longer : Length}
+    (is-longer : longer ≡ plusStep (lengthAbove us ud x) step)
     {r : Order} (says : r ≡ compared (lengthAbove us ud y) longer) where
   shorter-is : isShorter (lengthAbove us ud y) (plusStep (lengthAbove us ud x) step) ≡ saysShorter r
   unfolding isShorter

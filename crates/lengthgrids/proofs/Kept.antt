@@ -12,7 +12,13 @@ use Rattle.answers.specs.FlowLengths.{LengthGrids}
 use Rattle.lengthgrids.specs.Grids.{Room, GridsKept}
 
 pub kept-grids : {n : ℕ} {lent : LengthGrids} → GridsKept n lent lent
-kept-grids = record { down-straight = kept-all; down-diagonal = kept-all; up-straight = kept-all; up-diagonal = kept-all }
+kept-grids = record {
+  down-straight = kept-all;
+  down-diagonal = kept-all;
+  up-straight = kept-all;
+  up-diagonal =
+      kept-all;
+}
 
 pub kept-on : {n : ℕ} {a b c : LengthGrids} → GridsKept n a b → GridsKept n b c → GridsKept n a c
 kept-on k l = record {

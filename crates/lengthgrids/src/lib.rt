@@ -1,5 +1,6 @@
-// The four grids of flow lengths: cleared and marked, and a cell's length given to the cell above it or below it. ds and dd
-// are the grids of straight and diagonal steps downstream, us and ud those upstream. The marks of the outlets stand in dd.
+// The four grids of flow lengths: cleared and marked, and a cell's length given to the cell above it or below it. ds
+// and dd are the grids of straight and diagonal steps downstream, us and ud those upstream. The marks of the outlets
+// stand in dd.
 use lengths::Length;
 use lengths::Order;
 use lengths::Step;

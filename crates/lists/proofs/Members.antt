@@ -63,6 +63,9 @@ module _ (xs : List ℕ) (j : ℕ) (h : j < length xs) (x : ℕ) where
   pub member-more : member x (take (suc j) xs) ≡ (member x (take j xs) || eqb (getD xs j 0) x)
   member-more = ap (member x) (take-suc xs j 0 h) ∙ member-snoc x (take j xs) (getD xs j 0)
 
+  pub member-next : member x (take (j + 1) xs) ≡ (member x (take j xs) || eqb (getD xs j 0) x)
+  member-next = ap (λ (n : ℕ). member x (take n xs)) (add-one j) ∙ member-more
+
   pub member-it : eqb (getD xs j 0) x ≡ true → member x (take (suc j) xs) ≡ true
   member-it e = member-more ∙ ap (λ (b : Bool). member x (take j xs) || b) e ∙ or-true (member x (take j xs))
 

@@ -6,18 +6,16 @@ use mathlib.Core.List.{List}
 use mathlib.Core.Option.{Option, none, some}
 use Prim.Native.Nat.{ℕ, zero, suc, _+_, _-_, _*_, _%_, _≤_, _<_}
 use native.Mathlib.Omega.{arith}
-use lib.ListN.{length, getD}
+use lib.ListN.{getD}
 use lib.Arith.{digits-lt}
 use lib.Dec.{ltb}
 use borrow.Author.Tests.{ltb-true}
-use Rattle.traversal.specs.declared.Position.{Position}
 use Rattle.moves.specs.declared.Neighbour.{Neighbour}
 use Rattle.ground.specs.Compass.{Dir, E, SE, S, SW, W, NW, N, NE, placeOf, opposite, dirOf}
 use Rattle.ground.specs.Compass.{Shift, less, as-is, more, shifted, rowShift, colShift}
-use Rattle.ground.specs.Grid.{Grid, Link, gridOf, cellAt, neighbour, next}
+use Rattle.ground.specs.Grid.{Grid, gridOf, cellAt, neighbour, next}
 use Rattle.ground.proofs.Cells.{code-inside, neighbour-at}
 use Rattle.ground.proofs.GridNetwork.{Stepped, stepped}
-use Rattle.moves.specs.Lent.{Sides}
 use Rattle.moves.specs.Moves.{dirAt, shiftNumber, neighbourOf}
 use Rattle.moves.proofs.Spots.{size, inside, shift-le}
 use Rattle.downstream.specs.Offsets.{placeBy, offsetOf, offsetsOf}
@@ -118,45 +116,46 @@ module _ {rows cols row col at : ℕ} {codes offsets : List ℕ} (n : Numbered r
 
 -- THE MOVE
 module _ {rows cols row col x : ℕ} {codes offsets : List ℕ} (n : Numbered rows cols codes offsets row col x) {k : ℕ}
-    (b : k < 8) (has : HasNeighbour (gridOf rows cols codes) x k) {m : Neighbour} (is-m : m ≡ neighbourOf (dirAt k)) where
-  to : Lands rows cols row col (dirAt k) (has .0)
-  to = landed n b (has .1)
+    (b : k < 8) (has : HasNeighbour (gridOf rows cols codes) x k) {m : Neighbour} (is-m : m ≡ neighbourOf (dirAt k))
+  where
+    to : Lands rows cols row col (dirAt k) (has .0)
+    to = landed n b (has .1)
 
-  down-is : m .row ≡ shiftNumber (rowShift (dirAt k))
-  down-is = ap (λ (a : Neighbour). a .row) is-m
+    down-is : m .row ≡ shiftNumber (rowShift (dirAt k))
+    down-is = ap (λ (a : Neighbour). a .row) is-m
 
-  right-is : m .col ≡ shiftNumber (colShift (dirAt k))
-  right-is = ap (λ (a : Neighbour). a .col) is-m
+    right-is : m .col ≡ shiftNumber (colShift (dirAt k))
+    right-is = ap (λ (a : Neighbour). a .col) is-m
 
-  pub row-fits : row + m .row < 4096 + 3
-  row-fits = omega (arith, shift-le (rowShift (dirAt k)), down-is, n .on .row-in, n .on .grid .sides .rows-small)
+    pub row-fits : row + m .row < 4096 + 3
+    row-fits = omega (arith, shift-le (rowShift (dirAt k)), down-is, n .on .row-in, n .on .grid .sides .rows-small)
 
-  pub row-some : 1 ≤ row + m .row
-  row-some = omega (arith, to .is-row, down-is)
+    pub row-some : 1 ≤ row + m .row
+    row-some = omega (arith, to .is-row, down-is)
 
-  pub col-fits : col + m .col < 4096 + 3
-  col-fits = omega (arith, shift-le (colShift (dirAt k)), right-is, n .on .col-in, n .on .grid .sides .cols-small)
+    pub col-fits : col + m .col < 4096 + 3
+    col-fits = omega (arith, shift-le (colShift (dirAt k)), right-is, n .on .col-in, n .on .grid .sides .cols-small)
 
-  pub col-some : 1 ≤ col + m .col
-  col-some = omega (arith, to .is-col, right-is)
+    pub col-some : 1 ≤ col + m .col
+    col-some = omega (arith, to .is-col, right-is)
 
-  pub number-there : x + getD offsets k 0 - (cols + 1) ≡ has .0
-  number-there = omega (arith, number-is n b (has .1))
+    pub number-there : x + getD offsets k 0 - (cols + 1) ≡ has .0
+    number-there = omega (arith, number-is n b (has .1))
 
-  pub numbered-there : Numbered rows cols codes offsets (row + m .row - 1) (col + m .col - 1)
-      (x + getD offsets k 0 - (cols + 1))
-  numbered-there =
-      let r : row + m .row - 1 ≡ to .row-down = omega (arith, to .is-row, down-is) in
-      let c : col + m .col - 1 ≡ to .col-right = omega (arith, to .is-col, right-is) in
-      record {
-        on = record {
-          grid = n .on .grid;
-          row-in = omega (arith, r, to .row-in);
-          col-in = omega (arith, c, to .col-in);
-        };
-        is-at = number-there ∙ to .is-cell ∙ sym (rw (r, c));
-        are-offsets = n .are-offsets;
-      }
+    pub numbered-there : Numbered rows cols codes offsets (row + m .row - 1) (col + m .col - 1)
+        (x + getD offsets k 0 - (cols + 1))
+    numbered-there =
+        let r : row + m .row - 1 ≡ to .row-down = omega (arith, to .is-row, down-is) in
+        let c : col + m .col - 1 ≡ to .col-right = omega (arith, to .is-col, right-is) in
+        record {
+          on = record {
+            grid = n .on .grid;
+            row-in = omega (arith, r, to .row-in);
+            col-in = omega (arith, c, to .col-in);
+          };
+          is-at = number-there ∙ to .is-cell ∙ sym (rw (r, c));
+          are-offsets = n .are-offsets;
+        }
 
 -- THE WAY DOWN: the neighbour is at the place of the code, and the way back at the opposite one
 back-place : (d : Dir) → (placeOf d + 4) % 8 ≡ placeOf (opposite d)

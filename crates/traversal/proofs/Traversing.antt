@@ -3,7 +3,7 @@
 use mathlib.Core.Path.{_≡_, refl, sym, ap, _∙_, subst}
 use mathlib.Core.Bool.{Bool, true, false, true≢false}
 use mathlib.Core.Option.{Option, none, some}
-use Prim.Native.Nat.{ℕ, suc, _+_, _≤_, _<_}
+use Prim.Native.Nat.{ℕ, _+_, _≤_, _<_}
 use native.Mathlib.Omega.{arith}
 use native.Mathlib.Decide.{decLt}
 use Rattle.lists.proofs.Counts.{also, also-same, also-or, also-in, also-not}
@@ -104,7 +104,8 @@ module _ (next : ℕ → Option (Link Dir)) (outlet : ℕ → Bool) where
         above-left = t .above-left;
         from-below = λ c e z u h. also-in (t .entered) y c
             (also-or (t .entered c ≡ true) (t .entered) y z h
-            (λ q. subst (λ (w : ℕ). t .entered w ≡ true) (same-below x c d e y trib (subst (Tributary next outlet c e) q u)
+            (λ q. subst (λ (w : ℕ). t .entered w ≡ true) (same-below x c d e y trib
+            (subst (Tributary next outlet c e) q u)
             .0) (here .is-entered)) (t .from-below c e z u));
         has-below = λ c h v. also-or ((w : ℕ) × (e : Dir) × Tributary next outlet w e c) (t .entered) y c h
             (λ q. (x, d, subst (Tributary next outlet x d) (sym q) trib)) (λ w. t .has-below c w v);

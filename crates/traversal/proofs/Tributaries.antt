@@ -1,10 +1,10 @@
--- The next turn as the traversal asks for it: where the marks are at the outlets, what is found is a tributary, and none
--- is passed over. Assumes nothing.
+-- The next turn as the traversal asks for it: where the marks are at the outlets, what is found is a tributary, and
+-- none is passed over. Assumes nothing.
 use mathlib.Core.Path.{_≡_, refl, sym, ap, _∙_, subst}
-use mathlib.Core.Bool.{Bool, true, false, cond, true≢false}
+use mathlib.Core.Bool.{Bool, true, false, cond}
 use mathlib.Core.List.{List}
 use mathlib.Core.Option.{Option, none, some}
-use Prim.Native.Nat.{ℕ, _+_, _≤_, _<_, _^_}
+use Prim.Native.Nat.{ℕ, _≤_, _<_, _^_}
 use native.Mathlib.Omega.{arith}
 use lib.ListN.{getD}
 use lib.Dec.{ltb}

@@ -1,26 +1,26 @@
 -- What the source finds at a neighbour: whether it flows in, and whether it is marked.
 -- Assumes nothing.
 use mathlib.Core.Path.{_≡_, refl, sym, ap, _∙_}
-use mathlib.Core.Bool.{Bool, true, false, cond}
+use mathlib.Core.Bool.{Bool, cond}
 use mathlib.Core.List.{List}
-use mathlib.Core.Option.{Option, none, some}
+use mathlib.Core.Option.{none, some}
 use Prim.Native.Nat.{ℕ, _+_, _-_, _*_, _≤_, _<_, _^_}
 use native.Mathlib.Omega.{arith}
 use native.Mathlib.Decide.{decLt}
-use lib.ListN.{length, getD}
-use lib.Dec.{eqb, ltb}
+use lib.ListN.{getD}
+use lib.Dec.{eqb}
 use borrow.Author.Tests.{eq-eqb, ne-eqb, lt-ltb, le-ltb}
 use Rattle.moves.specs.declared.Neighbour.{Neighbour}
 use Rattle.moves.specs.declared.Spot.{Spot}
 use Rattle.moves.specs.declared.Spot.the-variants.{Off, On}
 use Rattle.ground.specs.Compass.{codeOf, opposite}
-use Rattle.ground.specs.Grid.{Grid, gridOf, neighbour, flowsIn}
+use Rattle.ground.specs.Grid.{Grid, gridOf, neighbour}
 use Rattle.ground.proofs.Cells.{code-inside}
 use Rattle.moves.specs.Moves.{dirAt, neighbourOf, spotCell}
 use Rattle.moves.specs.Walks.{ifFlowsIn, inflowFrom, FlowsFrom}
 use Rattle.inflows.specs.Values.{Inner}
 use Rattle.inflows.proofs.InflowRecord.{inner-spot}
-use Rattle.moves.proofs.Spots.{lies, row-is, col-is}
+use Rattle.moves.proofs.Spots.{lies}
 use Rattle.downstream.specs.Flowing.{Numbered}
 use Rattle.traversal.specs.Turns.{ifUnmarked, unmarkedFrom, Passed, NextTurn, HasNeighbour}
 use Rattle.traversal.proofs.Moving.{neighbour-inside, number-is}

@@ -4,7 +4,7 @@ use downstream::place_of;
 use moves::Spot;
 use moves::inflow_from;
 use moves::neighbour_at;
-ghost use Prim.Native.Nat.{_<_, _≤_};
+ghost use Prim.Native.Nat.{_<_};
 ghost use Rattle.ground.specs.Grid.{gridOf};
 ghost use Rattle.traversal.specs.Turns.{OnPosition, Turning, InnerTurning, NextTurn};
 ghost use Rattle.traversal.specs.Turns.{HasNeighbour, MovedTo, HasNext, WentDown};

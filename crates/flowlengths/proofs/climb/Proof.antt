@@ -1,6 +1,5 @@
 -- `flowlengths::climb` meets its contract. The invariant: the traversal stands at a cell. The measure: cells without a
 -- length count double, and the steps to the outlet once. Assumes nothing.
-use mathlib.Core.Path.{_≡_}
 use Prim.Native.Nat.{_+_, _*_, _%_, _^_}
 use native.Mathlib.Omega.{arith}
 use borrow.Author.Needs.{needs}
@@ -8,8 +7,9 @@ use lib.ListN.{getD}
 use Rattle.answers.specs.FlowLengths.{lengthGrids}
 use Rattle.traversal.proofs.Moving.{at-inside}
 use Rattle.flowlengths.specs.Giving.{blanks}
-use Rattle.flowlengths.proofs.Climbing.{Standing, standing-begin, o-inside, room-now, x-inside, cells-few}
-use Rattle.flowlengths.proofs.Climbing.{resting-on, has-next, countable-up, diagonal-up, standing-down, depth-less}
+use Rattle.flowlengths.proofs.Climbing.{Standing, standing-begin, room-now, x-inside, cells-few}
+use Rattle.flowlengths.proofs.Climbing.{resting-on, has-next, countable-up, diagonal-up, standing-down}
+use Rattle.flowlengths.proofs.Climbing.{depth-less}
 use Rattle.flowlengths.proofs.Climbing.{has-neighbour, countable-down, standing-up, fewer-blanks, depth-more}
 use Rattle.flowlengths.proofs.climb.Statement.{statement}
 use Rattle.flowlengths.proofs.climb.Tie as tie
@@ -132,13 +132,16 @@ loop-less c =
 
 loop-again : tie.Need-loop-again Inv-loop μ-loop
 loop-again c =
-    let d = c .before .before .before .before .before .before .before .before .before .before in
+    let f = c .before .before .before .before in
+    let q = f .before in
+    let r = q .before .before .before .before in
+    let w = r .below .ensures in
+    let d = r .before in
     let e = turned d in
     let s = start e .pre in
     let l = e .before .before .loop .inv in
-    let w = c .before .before .before .before .before .before .before .before .before .below .ensures in
     standing-down (s .0) l (e .next-turn .ensures) (d .before .before .if1 .taken) (d .if2 .left) (w .flows) (w .on)
-    (w .is-turn) (c .before .before .before .before .before .step-of .ensures) (c .before .before .before .before .give-up .ensures)
+    (w .is-turn) (q .step-of .ensures) (f .give-up .ensures)
 
 moved-requires : tie.Need-moved-requires Inv-loop μ-loop
 moved-requires c κs =
@@ -166,24 +169,33 @@ give-down-requires c κs =
 
 loop-less-2 : tie.Need-loop-less-2 Inv-loop μ-loop
 loop-less-2 c =
-    let u = c .before .before .before .before .before .before .before .before .before .before in
+    let f = c .before .before .before .before in
+    let q = f .before in
+    let r = q .before .before .before .before in
+    let w = r .moved .ensures in
+    let u = r .before in
     let e = u .before in
     let s = start e .pre in
     let l = e .before .before .loop .inv in
-    let w = c .before .before .before .before .before .before .before .before .before .moved .ensures in
-    let q = c .before .before .before .before .before .step-of2 .ensures in
-    let f = c .before .before .before .before .give-down .ensures in
-    omega (arith, fewer-blanks (s .0) l (e .next-turn .ensures) (u .if1 .left) (w .is-there) q f, depth-more (s .0) l (e .next-turn .ensures) (u .if1 .left) (w .is-there) q f)
+    let n = e .next-turn .ensures in
+    omega (
+      arith,
+      fewer-blanks (s .0) l n (u .if1 .left) (w .is-there) (q .step-of2 .ensures) (f .give-down .ensures),
+      depth-more (s .0) l n (u .if1 .left) (w .is-there) (q .step-of2 .ensures) (f .give-down .ensures),
+    )
 
 loop-again-2 : tie.Need-loop-again-2 Inv-loop μ-loop
 loop-again-2 c =
-    let u = c .before .before .before .before .before .before .before .before .before .before in
+    let f = c .before .before .before .before in
+    let q = f .before in
+    let r = q .before .before .before .before in
+    let w = r .moved .ensures in
+    let u = r .before in
     let e = u .before in
     let s = start e .pre in
     let l = e .before .before .loop .inv in
-    let w = c .before .before .before .before .before .before .before .before .before .moved .ensures in
-    standing-up (s .0) l (e .next-turn .ensures) (u .if1 .left) (w .is-there) (c .before .before .before .before .before .step-of2 .ensures)
-    (c .before .before .before .before .give-down .ensures) (w .on) (w .is-turn)
+    standing-up (s .0) l (e .next-turn .ensures) (u .if1 .left) (w .is-there) (q .step-of2 .ensures)
+    (f .give-down .ensures) (w .on) (w .is-turn)
 
 pub climb-spec : {M : Type 1} → statement M
 climb-spec =

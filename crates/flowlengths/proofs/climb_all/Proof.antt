@@ -22,6 +22,10 @@ Inv-loop rows cols codes outlets ds₀ dd₀ us₀ ud₀ steps j₀ ds dd us ud 
 abbrev μ-loop : tie.MeasureT-loop
 μ-loop rows cols codes outlets ds₀ dd₀ us₀ ud₀ steps j₀ ds dd us ud j = length outlets - j
 
+-- the turn of the loop, seen from where its outlet is done
+abbrev turn : tie.After-climb Inv-loop μ-loop → tie.In-loop Inv-loop μ-loop
+turn m = m .before .before .before .before .before .before
+
 offsets-requires : tie.Need-offsets-requires Inv-loop μ-loop
 offsets-requires c κs = c .before .before .before .before .before .before .pre .0 .grid .sides .cols-small
 
@@ -30,29 +34,30 @@ loop-holds c = (search needs, c .before .before .before .before .before .before 
 
 climb-requires : tie.Need-climb-requires Inv-loop μ-loop
 climb-requires c κs =
-    let s =
-    c .before .before .before .before .before .before .before .before .before .before .before .before .before .before .pre in
-    let l = c .before .before .before .before .before .before .loop .inv in
-    (kept-climbable (s .0) (l .2), ((c .before .before .before .before .before .loop-test .taken, c .before .before .before .before .before .before .before .offsets .ensures), l .1))
+    let t = c .before .before .before .before .before in
+    let l = t .before .loop .inv in
+    let o = t .before .before in
+    let s = o .before .before .before .before .before .before .before .pre in
+    (kept-climbable (s .0) (l .2), ((t .loop-test .taken, o .offsets .ensures), l .1))
 
 add-j : tie.Need-add-j Inv-loop μ-loop
 add-j c =
-    let t = c .before .before .before .before .before .before .before .before in
-    omega (arith, t .before .before .before .before .before .before .loop-test .taken, t .before .before .before .before .before .before .before .before .before .before .before .before .before .before .before .pre .0 .few-outlets)
+    let t = turn (c .before .before .before .before .before .before .before .before) in
+    let s = t .before .before .before .before .before .before .before .before .before .pre in
+    omega (arith, t .loop-test .taken, s .0 .few-outlets)
 
 loop-less : tie.Need-loop-less Inv-loop μ-loop
 loop-less c =
-    omega (
-      arith,
-      c .before .before .before .before .before .before .before .before .before .before .before .before .before .before .loop-test .taken,
-    )
+    let t = turn (c .before .before .before .before .before .before .before .before) in
+    omega (arith, t .loop-test .taken)
 
 loop-again : tie.Need-loop-again Inv-loop μ-loop
 loop-again c =
-    let t = c .before .before .before .before .before .before .before .before in (
-      omega (arith, t .before .before .before .before .before .before .loop-test .taken),
-      t .climb .ensures .0,
-      kept-on (t .before .before .before .before .before .before .before .loop .inv .2) (t .climb .ensures .1),
+    let m = c .before .before .before .before .before .before .before .before in
+    let t = turn m in (
+      omega (arith, t .loop-test .taken),
+      m .climb .ensures .0,
+      kept-on (t .before .loop .inv .2) (m .climb .ensures .1),
     )
 
 same-length : tie.Need-same-length Inv-loop μ-loop

@@ -48,9 +48,10 @@ same-length-4 c = search needs
 
 returns-2 : tie.Need-returns-2
 returns-2 c =
-    let n =
-    c .before .before .before .before .before .before .before .before .before .before .before .before .before .before in
-    told (called n) (lent n) (n .outlets-number .ensures) (c .before .before .before .before .before .before .before .before .before .before .before .before .before .if1 .left) (c .before .before .before .before .before .before .before .before .give-all .ensures)
+    let g = c .before .before .before .before .before .before .before .before in
+    let e = g .before .before .before .before .before in
+    let n = e .before in
+    told (called n) (lent n) (n .outlets-number .ensures) (e .if1 .left) (g .give-all .ensures)
 
 pub flow-lengths-spec : {M : Type 1} → statement M
 flow-lengths-spec =

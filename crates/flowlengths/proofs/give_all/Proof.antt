@@ -1,6 +1,5 @@
 -- `flowlengths::give_all` meets its contract: prepared, gone through, and the marks taken away.
 -- Assumes nothing.
-use native.Mathlib.Omega.{arith}
 use borrow.Author.Needs.{needs}
 use Rattle.lengthgrids.proofs.Kept.{kept-on, kept-room}
 use Rattle.flowlengths.proofs.Climbing.{kept-climbable}
@@ -46,7 +45,8 @@ returns : tie.Need-returns
 returns c =
     let a = c .before .before .before .before .before .before .before .before .before .before .before .before in
     let p = a .before .before .before .before .before .before .before .before .before .before .before .before .before in
-    lengths-over (p .before .before .before .before .before .before .before .before .before .before .before .pre) (a .climb-all .ensures .0) (c .before .before .mark .ensures)
+    let s = p .before .before .before .before .before .before .before .before .before .before .before .pre in
+    lengths-over s (a .climb-all .ensures .0) (c .before .before .mark .ensures)
     (kept-on (p .prepare .ensures .kept) (a .climb-all .ensures .1))
 
 pub give-all-spec : {M : Type 1} → statement M

@@ -1,7 +1,6 @@
 -- `lengthgrids::give_down` meets its contract: the two counts are stored.
 -- Assumes nothing.
 use mathlib.Core.Path.{ap}
-use Prim.Native.Nat.{ℕ}
 use lib.ListN.{set}
 use borrow.Author.Needs.{needs}
 use Rattle.lengths.specs.declared.Length.{Length}

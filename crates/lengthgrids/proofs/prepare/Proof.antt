@@ -34,8 +34,13 @@ same-length-4 c = search needs
 
 returns : tie.Need-returns
 returns c =
-    prepared
-    (c .before .before .before .before .before .before .before .before .before .before .before .before .before .before .before .before .before .before .clear .ensures) (c .before .before .before .before .before .before .before .before .before .before .before .before .before .before .clear2 .ensures) (c .before .before .before .before .before .before .before .before .before .before .clear3 .ensures) (c .before .before .before .before .before .before .clear4 .ensures) (c .before .before .mark .ensures)
+    let m = c .before .before in
+    let d = m .before .before .before .before in
+    let u = d .before .before .before .before in
+    let e = u .before .before .before .before in
+    let a = e .before .before .before .before in
+    prepared (a .clear .ensures) (e .clear2 .ensures) (u .clear3 .ensures) (d .clear4 .ensures)
+    (m .mark .ensures)
 
 pub prepare-spec : {M : Type 1} → statement M
 prepare-spec =

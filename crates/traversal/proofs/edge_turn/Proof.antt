@@ -18,7 +18,8 @@ abbrev μ-loop : tie.MeasureT-loop
 μ-loop rows cols codes offsets marks x row col n₀ n = 8 - n
 
 -- the neighbour that is found is a cell
-inside : (c : tie.After-known-told Inv-loop μ-loop) → let a = c .before .before .before .before .before .before .before .before .args in
+inside : (c : tie.After-known-told Inv-loop μ-loop) → let a =
+    c .before .before .before .before .before .before .before .before .args in
     c .before .r .given .0 .0 * a .cols + c .before .r .given .0 .1 .0 < a .rows * a .cols
 inside c =
     let f = c .before .before .before .inflow-from .ensures in
