@@ -18,9 +18,9 @@ use Rattle.ground.proofs.Walks.{ends-none}
 use Rattle.ground.proofs.Cells.{ground-within, ground-sub, null-sub}
 use Rattle.ground.proofs.Ground.{grid-length, grid-at}
 use Rattle.filling.specs.Packed.{flagIf}
-use Rattle.filling.specs.Filling.{Fillable, Within, flagOf, stripIf, Stripped}
+use Rattle.filling.specs.Filling.{Fillable, flagOf, stripIf, Stripped}
 use Rattle.filling.specs.Filling.{nextCut, Looked, cutFree, filledIf}
-use Rattle.lists.specs.Slices.{Kept, Cleared}
+use Rattle.lists.specs.Slices.{Kept, Cleared, Within}
 use Rattle.filling.proofs.Cut.{gathered-cut}
 use Rattle.filling.proofs.AllLooked.{settled, settled-word, settled-ends, ends-settled}
 use Rattle.filling.proofs.Done.{tally-all, tally-full}

@@ -36,10 +36,6 @@ pub record FillableAt (rows cols : ℕ) (codes outlets steps words : List ℕ) (
 abbrev pub flagOf : List ℕ → ℕ → ℕ
 flagOf outlets x = flagIf (member x outlets)
 
--- every outlet is one of the first n places
-abbrev pub Within : ℕ → List ℕ → Type 0
-Within n outlets = (j : ℕ) → j < length outlets → getD outlets j 0 < n
-
 -- a word without its flag
 abbrev pub stripIf : Bool → ℕ → ℕ
 stripIf b w = cond b (w % 2 ^ 30) w

@@ -14,9 +14,9 @@ use lists::index_of;
 use moves::Cell;
 ghost use Prim.Native.Nat.{_+_, _*_, _≤_, _<_};
 ghost use lib.ListN.{length};
-ghost use Rattle.lists.specs.Slices.{Kept};
+ghost use Rattle.lists.specs.Slices.{Kept, Within};
 ghost use Rattle.ground.specs.Grid.{gridOf};
-ghost use Rattle.filling.specs.Filling.{Fillable, FillableAt, Within, Flagged, Stripped};
+ghost use Rattle.filling.specs.Filling.{Fillable, FillableAt, Flagged, Stripped};
 ghost use Rattle.filling.specs.Filling.{Looked, Down, Passed, Fills};
 
 // The flag of an outlet.

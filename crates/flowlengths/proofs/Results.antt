@@ -11,7 +11,7 @@ use lib.ListN.{length, getD}
 use lib.Seq.{take-length}
 use borrow.Author.Tests.{ne-eqb}
 use Rattle.lists.specs.Lists.{member}
-use Rattle.lists.specs.Slices.{Kept, overlaid}
+use Rattle.lists.specs.Slices.{Kept, overlaid, Within}
 use Rattle.lists.proofs.Kept.{kept-then}
 use Rattle.lists.proofs.Overlaid.{front-is}
 use Rattle.lengths.specs.declared.Length.{Length}
@@ -31,7 +31,7 @@ use Rattle.answers.specs.FlowLengths.{flowLengthsNumber, flowLengthsLeaves, Tel
 use Rattle.checks.proofs.Passed.{sized, listed}
 use Rattle.traversal.specs.Traversal.{Traversal}
 use Rattle.traversal.proofs.Traversing.{untouched, left-all}
-use Rattle.lengthgrids.specs.Grids.{GridsKept, Within, MarkedWith, Prepared}
+use Rattle.lengthgrids.specs.Grids.{GridsKept, MarkedWith, Prepared}
 use Rattle.flowlengths.specs.Giving.{Climbable, downAt, upAt, Given}
 use Rattle.flowlengths.specs.Giving.{Resting}
 use Rattle.flowlengths.proofs.Greatest.{greatest-zero, greatest-all}

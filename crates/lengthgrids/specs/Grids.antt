@@ -28,10 +28,6 @@ pub record GridsKept (n : ℕ) (old new : LengthGrids) : Type 0 where
   pub up-straight : Kept n (old .up-straight) (new .up-straight)
   pub up-diagonal : Kept n (old .up-diagonal) (new .up-diagonal)
 
--- every outlet is one of the first n places
-abbrev pub Within : ℕ → List ℕ → Type 0
-Within n outlets = (j : ℕ) → j < length outlets → getD outlets j 0 < n
-
 -- the first j outlets have this in their places
 pub record MarkedWith (n : ℕ) (outlets : List ℕ) (j mark : ℕ) (old new : List ℕ) : Type 0 where
   pub kept : Kept n old new

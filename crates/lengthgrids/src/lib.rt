@@ -9,8 +9,9 @@ use lists::index_of;
 use traversal::MARK;
 ghost use Prim.Native.Nat.{_≤_, _<_, _^_};
 ghost use lib.ListN.{length, getD};
+ghost use Rattle.lists.specs.Slices.{Within};
 ghost use Rattle.answers.specs.FlowLengths.{lengthGrids};
-ghost use Rattle.lengthgrids.specs.Grids.{Within, MarkedWith, Room, Prepared, Countable, GivesDown, GivesUp};
+ghost use Rattle.lengthgrids.specs.Grids.{MarkedWith, Room, Prepared, Countable, GivesDown, GivesUp};
 
 // Puts a number in the place of each outlet.
 pub fn mark(n: usize, outlets: &[u32], marks: &mut [u32], to: u32)

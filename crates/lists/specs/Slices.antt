@@ -22,3 +22,7 @@ pub record Kept (n : ℕ) (old new : List ℕ) : Type 0 where
 pub record Cleared (n i : ℕ) (old new : List ℕ) : Type 0 where
   pub kept : Kept n old new
   pub are-zero : (x : ℕ) → x < i → getD new x 0 ≡ 0
+
+-- every number of a list is one of the first n places
+abbrev pub Within : ℕ → List ℕ → Type 0
+Within n places = (j : ℕ) → j < length places → getD places j 0 < n
