@@ -1,4 +1,1 @@
-pub mod Greatest
-pub mod Giving
-pub mod Climbing
 pub mod Results

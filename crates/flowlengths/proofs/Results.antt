@@ -32,11 +32,11 @@ use Rattle.checks.proofs.Passed.{sized, listed}
 use Rattle.traversal.specs.Traversal.{Traversal}
 use Rattle.traversal.proofs.Traversing.{untouched, left-all}
 use Rattle.lengthgrids.specs.Grids.{GridsKept, MarkedWith, Prepared}
-use Rattle.flowlengths.specs.Giving.{Climbable, downAt, upAt, Given}
-use Rattle.flowlengths.specs.Giving.{Resting}
-use Rattle.flowlengths.proofs.Greatest.{greatest-zero, greatest-all}
-use Rattle.flowlengths.proofs.Giving.{entered-ground, given-none}
-use Rattle.flowlengths.proofs.Climbing.{placed}
+use Rattle.climbing.specs.Giving.{Climbable, downAt, upAt, Given}
+use Rattle.climbing.specs.Giving.{Resting}
+use Rattle.climbing.proofs.Greatest.{greatest-zero, greatest-all}
+use Rattle.climbing.proofs.Giving.{entered-ground, given-none}
+use Rattle.climbing.proofs.Climbing.{placed}
 
 never : {P : Type 0} {b : At Length} → none ≡ some b → P
 never e = let w : _≡_ {A = ℕ} 0 1 = cc in absurd (omega arith)

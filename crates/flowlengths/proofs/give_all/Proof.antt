@@ -2,7 +2,7 @@
 -- Assumes nothing.
 use borrow.Author.Needs.{needs}
 use Rattle.lengthgrids.proofs.Kept.{kept-on, kept-room}
-use Rattle.flowlengths.proofs.Climbing.{kept-climbable}
+use Rattle.climbing.proofs.Climbing.{kept-climbable}
 use Rattle.flowlengths.proofs.Results.{outlets-within, resting-none, lengths-over}
 use Rattle.flowlengths.proofs.give_all.Statement.{statement}
 use Rattle.flowlengths.proofs.give_all.Tie as tie

@@ -25,10 +25,10 @@ use Rattle.answers.specs.FlowLengths.{LengthGrids, lengthGrids}
 use Rattle.traversal.specs.Traversal.{Tributary, Traversal, Here}
 use Rattle.traversal.proofs.Traversing.{same-below, untouched, begun, entering, leaving, all-left}
 use Rattle.lengthgrids.specs.Grids.{lengthBelow, lengthAbove}
-use Rattle.flowlengths.specs.Giving.{downAt, upAt, Arrived, Given, GreatestLeft}
+use Rattle.climbing.specs.Giving.{downAt, upAt, Arrived, Given, GreatestLeft}
 use Rattle.lengthgrids.specs.Grids.{GivesUp}
-use Rattle.flowlengths.proofs.Greatest.{greatest-none, greatest-other, greatest-longer, greatest-stays}
-use Rattle.flowlengths.proofs.Greatest.{greatest-all}
+use Rattle.climbing.proofs.Greatest.{greatest-none, greatest-other, greatest-longer, greatest-stays}
+use Rattle.climbing.proofs.Greatest.{greatest-all}
 
 -- two places are the same or not
 places : (P : Type 0) (x y : ℕ) → (x ≡ y → P) → ((x ≡ y → ⊥) → P) → P

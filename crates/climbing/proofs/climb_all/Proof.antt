@@ -1,4 +1,4 @@
--- `flowlengths::climb_all` meets its contract. The invariant: the subwatersheds of the first j outlets are left.
+-- `climbing::climb_all` meets its contract. The invariant: the subwatersheds of the first j outlets are left.
 -- Assumes nothing.
 use mathlib.Core.Path.{_≡_, subst}
 use Prim.Native.Nat.{ℕ, _*_, _-_, _≤_}
@@ -8,11 +8,11 @@ use lib.ListN.{length}
 use Rattle.ground.specs.Grid.{gridOf}
 use Rattle.answers.specs.FlowLengths.{lengthGrids}
 use Rattle.lengthgrids.specs.Grids.{GridsKept}
-use Rattle.flowlengths.specs.Giving.{Resting}
+use Rattle.climbing.specs.Giving.{Resting}
 use Rattle.lengthgrids.proofs.Kept.{kept-grids, kept-on}
-use Rattle.flowlengths.proofs.Climbing.{kept-climbable}
-use Rattle.flowlengths.proofs.climb_all.Statement.{statement}
-use Rattle.flowlengths.proofs.climb_all.Tie as tie
+use Rattle.climbing.proofs.Climbing.{kept-climbable}
+use Rattle.climbing.proofs.climb_all.Statement.{statement}
+use Rattle.climbing.proofs.climb_all.Tie as tie
 
 abbrev Inv-loop : tie.InvT-loop
 Inv-loop rows cols codes outlets ds₀ dd₀ us₀ ud₀ steps j₀ ds dd us ud j =

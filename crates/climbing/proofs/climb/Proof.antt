@@ -1,4 +1,4 @@
--- `flowlengths::climb` meets its contract. The invariant: the traversal stands at a cell. The measure: cells without a
+-- `climbing::climb` meets its contract. The invariant: the traversal stands at a cell. The measure: cells without a
 -- length count double, and the steps to the outlet once. Assumes nothing.
 use Prim.Native.Nat.{_+_, _*_, _%_, _^_}
 use native.Mathlib.Omega.{arith}
@@ -6,13 +6,13 @@ use borrow.Author.Needs.{needs}
 use lib.ListN.{getD}
 use Rattle.answers.specs.FlowLengths.{lengthGrids}
 use Rattle.traversal.proofs.Moving.{at-inside}
-use Rattle.flowlengths.specs.Giving.{blanks}
-use Rattle.flowlengths.proofs.Climbing.{Standing, standing-begin, room-now, x-inside, cells-few}
-use Rattle.flowlengths.proofs.Climbing.{resting-on, has-next, countable-up, diagonal-up, standing-down}
-use Rattle.flowlengths.proofs.Climbing.{depth-less}
-use Rattle.flowlengths.proofs.Climbing.{has-neighbour, countable-down, standing-up, fewer-blanks, depth-more}
-use Rattle.flowlengths.proofs.climb.Statement.{statement}
-use Rattle.flowlengths.proofs.climb.Tie as tie
+use Rattle.climbing.specs.Giving.{blanks}
+use Rattle.climbing.proofs.Climbing.{Standing, standing-begin, room-now, x-inside, cells-few}
+use Rattle.climbing.proofs.Climbing.{resting-on, has-next, countable-up, diagonal-up, standing-down}
+use Rattle.climbing.proofs.Climbing.{depth-less}
+use Rattle.climbing.proofs.Climbing.{has-neighbour, countable-down, standing-up, fewer-blanks, depth-more}
+use Rattle.climbing.proofs.climb.Statement.{statement}
+use Rattle.climbing.proofs.climb.Tie as tie
 
 abbrev Inv-loop : tie.InvT-loop
 Inv-loop rows cols codes outlets steps ds₀ dd₀ us₀ ud₀ place o p₀ ds dd us ud p =

@@ -20,7 +20,7 @@ use Rattle.ground.specs.FlowLengths.{upstreamLength}
 use Rattle.ground.proofs.Cells.{opposite-twice}
 use Rattle.ground.proofs.FlowLengths.{upstream-bound, upstream-attained, LongestInflow}
 use Rattle.traversal.specs.Traversal.{Tributary}
-use Rattle.flowlengths.specs.Giving.{FromLeft, GreatestLeft}
+use Rattle.climbing.specs.Giving.{FromLeft, GreatestLeft}
 
 -- no length is shorter than none
 pub none-shorter : (l : Length) → isShorter l (counts 0 0) ≡ false

@@ -39,12 +39,12 @@ use Rattle.traversal.specs.Turns.{NextTurn, HasNeighbour, HasNext}
 use Rattle.traversal.proofs.Traversing.{begun, begun-here, entering, entering-here, leaving, leaving-here}
 use Rattle.traversal.proofs.Tributaries.{none-ahead, found-beside, found-tributary, found-far, found-next}
 use Rattle.lengthgrids.specs.Grids.{Room, GridsKept, lengthBelow, lengthAbove}
-use Rattle.flowlengths.specs.Giving.{Climbable, downAt, blanks}
+use Rattle.climbing.specs.Giving.{Climbable, downAt, blanks}
 use Rattle.lengthgrids.specs.Grids.{Countable, GivesDown, GivesUp}
-use Rattle.flowlengths.specs.Giving.{Resting, Climbing}
+use Rattle.climbing.specs.Giving.{Resting, Climbing}
 use Rattle.lengthgrids.proofs.Kept.{kept-grids, kept-on, kept-room, kept-if}
-use Rattle.flowlengths.proofs.Giving.{one-each, entered-ground, given-begun, given-left, given-up, up-small}
-use Rattle.flowlengths.proofs.Giving.{given-down}
+use Rattle.climbing.proofs.Giving.{one-each, entered-ground, given-begun, given-left, given-up, up-small}
+use Rattle.climbing.proofs.Giving.{given-down}
 
 -- ---- a list of different outlets
 
