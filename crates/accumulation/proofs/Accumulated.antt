@@ -53,7 +53,7 @@ module _ (rows cols : ℕ) (codes a : List ℕ) where
   module _ (passes : firstFailed before ≡ 0) where
     pub fillable : Fillable rows cols codes [] a
     fillable =
-        let s = sized rows cols codes (length a ∷ []) [] 0 (inl (omega arith)) passes in
+        let s = sized (gridOf rows cols codes) (length a ∷ []) [] 0 (inl (omega arith)) passes in
         record {
           grid = s .grid;
           some-cols = s .some-cols;

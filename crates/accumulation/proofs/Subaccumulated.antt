@@ -1,6 +1,6 @@
 -- What subaccumulating answers and leaves: by the checks before filling, which then succeeds.
 -- Assumes nothing.
-use mathlib.Core.Path.{_≡_, refl, sym, ap, _∙_}
+use mathlib.Core.Path.{_≡_, refl, sym, ap, _∙_, subst}
 use mathlib.Core.Bool.{Bool, true}
 use mathlib.Core.Logic.{inl, inr}
 use mathlib.Core.List.{List, [], _∷_, _++_}
@@ -9,8 +9,10 @@ use native.Mathlib.Omega.{arith}
 use lib.ListN.{length}
 use borrow.Author.Tests.{ne-eqb}
 use Rattle.lists.specs.Slices.{overlaid}
+use Rattle.ground.specs.Tables.{table1}
 use Rattle.ground.specs.Grid.{Grid}
 use Rattle.ground.specs.Accumulation.{subaccumulations}
+use Rattle.ground.proofs.Cells.{of-ours}
 use Rattle.answers.specs.Checks.{Check, firstFailed}
 use Rattle.answers.specs.Entries.{Catchment, outletChecks, subaccumulateNumber, subaccumulateLeaves, Subaccumulates}
 use Rattle.checks.proofs.Passed.{Listed, sized, listed}
@@ -47,14 +49,15 @@ module _ (c : Catchment) (old : List ℕ) where
     pub good : Listed land (c .accumulation) (c .outlets)
     good = listed c lengths rest 0 (inl (omega arith)) passes
 
-    pub fillable : Fillable (land .rows) (land .cols) (land .codes) (c .outlets) old
-    fillable =
-        let s = sized (land .rows) (land .cols) (land .codes) lengths _ 0 (inl (omega arith)) passes in
+    pub fillable : land .table ≡ table1 → Fillable (land .rows) (land .cols) (land .codes) (c .outlets) old
+    fillable ours =
+        let s = sized land lengths _ 0 (inl (omega arith)) passes in
+        let l = subst (λ g. Listed g (c .accumulation) (c .outlets)) (sym (of-ours land ours)) good in
         record {
           grid = s .grid;
           some-cols = s .some-cols;
           has-words = s .reach (length old) (inr (inl refl));
-          on-ground = good .at-ground;
+          on-ground = l .at-ground;
         }
 
     -- filling succeeds
@@ -65,7 +68,7 @@ module _ (c : Catchment) (old : List ℕ) where
 
   -- FILLED
   module _ {number : ℕ} (is : number ≡ firstFailed before) (z : number ≡ 0) where
-    pub passed-fillable : Fillable (land .rows) (land .cols) (land .codes) (c .outlets) old
+    pub passed-fillable : land .table ≡ table1 → Fillable (land .rows) (land .cols) (land .codes) (c .outlets) old
     passed-fillable = fillable [] (sym is ∙ z)
 
     pub filled : {b : Bool} {exit : List ℕ} → Fills land (c .outlets) old b exit → Subaccumulates c old 0 exit

@@ -9,10 +9,9 @@ use native.Mathlib.Omega.{arith}
 use lib.ListN.{length, getD}
 use lib.Dec.{eqb, leb}
 use borrow.Author.Tests.{leb-true, eq-eqb}
-use Rattle.lists.specs.Lists.{In, Every, Sorted, member}
-use Rattle.lists.proofs.Lists.{and-both, every-map, every-is}
-use Rattle.lists.proofs.Members.{in-member}
-use Rattle.answers.specs.Checks.{Check, check, firstFailed, allPass, different}
+use Rattle.lists.specs.Lists.{In, Every}
+use Rattle.lists.proofs.Lists.{and-both, every-map}
+use Rattle.answers.specs.Checks.{Check, check, firstFailed, allPass}
 
 -- each element of a list of which all pass
 pub all-every : {A : Type 0} (f : A → Bool) (xs : List A) → allPass f xs ≡ true → Every (λ x. f x ≡ true) xs
@@ -23,17 +22,6 @@ pub all-at : (f : ℕ → Bool) (xs : List ℕ) → allPass f xs ≡ true → (i
 all-at f [] h i l = absurd (omega arith)
 all-at f (x ∷ xs) h zero l = and-both (f x) (allPass f xs) h .0
 all-at f (x ∷ xs) h (suc i) l = all-at f xs (and-both (f x) (allPass f xs) h .1) i (omega arith)
-
--- a list without the same number twice
-apart-member : (x : ℕ) (xs : List ℕ) → not (member x xs) ≡ true → Every (λ y. x ≡ y → ⊥) xs
-apart-member x xs h = every-is (λ y. x ≡ y → ⊥) xs
-    (λ y i e. true≢false (sym h ∙ ap not (in-member x xs (subst (λ z. In z xs) (sym e) i))))
-
-pub different-sorted : (xs : List ℕ) → different xs ≡ true → Sorted (λ x y. x ≡ y → ⊥) xs
-different-sorted [] h = tt
-different-sorted (x ∷ xs) h =
-    let p = and-both (not (member x xs)) (different xs) h in
-    (apart-member x xs (p .0), different-sorted xs (p .1))
 
 -- does the check of this number pass? Where there is none, nothing is asked
 abbrev pub passesOf : ℕ → List Check → Bool

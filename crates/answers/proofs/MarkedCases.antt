@@ -4,37 +4,20 @@ use mathlib.Core.Path.{_≡_, refl}
 use mathlib.Core.List.{map}
 use Rattle.lengths.specs.Rule.{compared, ruled, signOf, isShorter}
 use Rattle.lists.specs.Lists.{sumOf}
-use Rattle.ground.specs.Compass.{dirOf}
+use Rattle.ground.specs.Tables.{isCode, dirOf}
 use Rattle.ground.specs.Grid.{codeAt, neighbour, next, inflowRecord, inflows}
 use Rattle.ground.specs.Walk.{ringFree}
 use Rattle.ground.specs.Accumulation.{balance, agrees, subaccumulation}
 use Rattle.ground.specs.Subwatershed.{belongs, inSubwatershed, walked}
 use Rattle.ground.specs.Forest.{forest}
 use Rattle.search.specs.Tracing.{tracingBy}
-use Rattle.answers.specs.Checks.{
-  firstFailed,
-  isCode,
-  check10,
-  check11,
-  check12,
-  check13,
-  check14,
-  check15,
-  check16,
-  check17,
-  check18,
-  check19,
-  check20,
-  check21,
-  check22,
-  check23,
-}
+use Rattle.answers.specs.Checks.{firstFailed, check10, check11, check12, check13, check14, check15}
+use Rattle.answers.specs.Checks.{check16, check17, check18, check19, check20, check21, check22, check23}
 use Rattle.lists.specs.Slices.{overlaid}
-use Rattle.answers.specs.Entries.{accumulateNumber, accumulateLeaves, checkNumber}
-use Rattle.answers.specs.Entries.{subaccumulateNumber, subaccumulateLeaves}
+use Rattle.answers.specs.Entries.{accumulateNumber, accumulateLeaves, checkNumber, subaccumulateNumber}
+use Rattle.answers.specs.Entries.{subaccumulateLeaves}
 use Rattle.answers.specs.Answers.{tracedWith}
-use Rattle.answers.specs.Tracings.{recursionNumber, stackNumber}
-use Rattle.answers.specs.Tracings.{leavesSubaccumulation, leavesStarts, leavesWork}
+use Rattle.answers.specs.Tracings.{recursionNumber, stackNumber, leavesSubaccumulation, leavesStarts, leavesWork}
 use Rattle.answers.specs.Drawing.{drawNumber, drawLeaves, drawnPart}
 use Rattle.answers.specs.MarkedRows.{worked}
 use Rattle.answers.specs.Marked.{marks}

@@ -1,13 +1,12 @@
 -- The checks of the grid entries, each once, and the order in which they are tried.
 -- Assumes nothing.
-use mathlib.Core.Bool.{Bool, true, false, cond, not, _&&_, _||_}
+use mathlib.Core.Bool.{Bool, true, cond, _&&_}
 use mathlib.Core.List.{List, [], _∷_}
-use mathlib.Core.Option.{Option, none, some}
 use Prim.Native.Nat.{ℕ, _*_}
 use lib.ListN.{length, getD}
 use lib.Dec.{eqb, ltb, leb}
-use Rattle.lists.specs.Lists.{member, allBelow}
-use Rattle.ground.specs.Compass.{Dir, dirOf}
+use Rattle.lists.specs.Lists.{different, allBelow}
+use Rattle.ground.specs.Tables.{isTable, isCode}
 use Rattle.ground.specs.Grid.{Grid, cellCount, ground}
 use Rattle.ground.specs.Walk.{ringFree}
 use Rattle.ground.specs.Accumulation.{agrees}
@@ -43,16 +42,9 @@ check10 rows cols = check 10 (isSide rows && isSide cols)
 unfoldable pub check11 : ℕ → ℕ → List ℕ → Check
 check11 rows cols lent = check 11 (allPass (λ n. leb (rows * cols) n) lent)
 
--- 12: each of the first R × C codes is 0 or one of the eight directions'
-abbrev pub isDir : Option Dir → Bool
-isDir none = false
-isDir (some d) = true
-
-unfoldable pub isCode : ℕ → Bool
-isCode code = eqb code 0 || isDir (dirOf code)
-
+-- 12: each of the first R × C codes is one of the grid's table
 unfoldable pub check12 : Grid → Check
-check12 g = check 12 (allBelow (λ x. isCode (getD (g .codes) x 0)) (cellCount g))
+check12 g = check 12 (allBelow (λ x. isCode (g .table) (getD (g .codes) x 0)) (cellCount g))
 
 -- 13, when accumulating only: no walk comes back to a cell
 unfoldable pub check13 : Grid → Check
@@ -71,10 +63,6 @@ unfoldable pub check16 : Grid → List ℕ → Check
 check16 g outlets = check 16 (allPass (λ o. ltb o (cellCount g) && ground g o) outlets)
 
 -- 17: no outlet stands in the list twice
-abbrev pub different : List ℕ → Bool
-different [] = true
-different (x ∷ xs) = not (member x xs) && different xs
-
 unfoldable pub check17 : List ℕ → Check
 check17 outlets = check 17 (different outlets)
 
@@ -101,3 +89,7 @@ check22 g outlets o start = check 22 (inSubwatershed g outlets o start)
 -- 23, drawing and writing: what is to be written fits the lent places
 unfoldable pub check23 : List ℕ → List ℕ → Check
 check23 whole lent = check 23 (leb (length whole) (length lent))
+
+-- 24, converting: both are numbers of tables
+unfoldable pub check24 : ℕ → ℕ → Check
+check24 from to = check 24 (isTable from && isTable to)

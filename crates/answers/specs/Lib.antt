@@ -1,6 +1,7 @@
 pub mod Checks
 pub mod Entries
 pub mod FlowLengths
+pub mod Converting
 pub mod Answers
 pub mod Tracings
 pub mod Seen

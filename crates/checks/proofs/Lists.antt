@@ -7,8 +7,8 @@ use Prim.Native.Nat.{ℕ, _+_, _≤_, _<_}
 use native.Mathlib.Numerals.{add-one}
 use lib.ListN.{length, getD, drop, drop-of-length-le}
 use lib.Seq.{drop-cons}
-use Rattle.lists.specs.Lists.{member}
-use Rattle.answers.specs.Checks.{allPass, different}
+use Rattle.lists.specs.Lists.{member, different}
+use Rattle.answers.specs.Checks.{allPass}
 
 -- a test of a list is b, if what is left from i on decides it: at the element there, and at the end
 module _ (l : List ℕ) (i : ℕ) (b : Bool) where

@@ -7,18 +7,19 @@ use Prim.Native.Nat.{ℕ, _*_, _≤_, _<_}
 use lib.ListN.{length, getD}
 use lib.Dec.{leb}
 use borrow.Author.Tests.{le-leb, lt-leb, lt-ltb, le-ltb}
-use Rattle.lists.specs.Lists.{allBelow}
-use Rattle.ground.specs.Grid.{Grid, gridOf}
+use Rattle.lists.specs.Lists.{allBelow, different}
+use Rattle.ground.specs.Grid.{Grid, gridIn}
 use Rattle.ground.specs.Accumulation.{agrees}
-use Rattle.answers.specs.Checks.{firstFailed, allPass, isSide, isCode, different}
-use Rattle.answers.specs.Checks.{check10, check11, check12, check14, check15, check16, check17, check18}
+use Rattle.ground.specs.Tables.{Table, isCode}
+use Rattle.answers.specs.Checks.{firstFailed, allPass, isSide, check10, check11, check12, check14, check15, check16}
+use Rattle.answers.specs.Checks.{check17, check18}
 use Rattle.answers.specs.Entries.{Catchment, gridChecks, agreedChecks, outletChecks, placeChecks}
 use Rattle.checks.specs.Tests.{isPlaced}
 use Rattle.checks.proofs.Passed.{beyond-grid, beyond-agreed, beyond-outlets}
 
-module _ (rows cols : ℕ) (codes lent : List ℕ) where
+module _ (t : Table) (rows cols : ℕ) (codes lent : List ℕ) where
   abbrev gridNumber : ℕ
-  gridNumber = firstFailed (gridChecks (gridOf rows cols codes) lent)
+  gridNumber = firstFailed (gridChecks (gridIn t rows cols codes) lent)
 
   pub no-rows : isSide rows ≡ false → 10 ≡ gridNumber
   unfolding firstFailed check10
@@ -40,11 +41,11 @@ module _ (rows cols : ℕ) (codes lent : List ℕ) where
         no-reach e = rw (a, b, le-leb (rows * cols) (length codes) h, e)
 
         module _ (c : allPass (λ m. leb (rows * cols) m) lent ≡ true) where
-          pub other-code : allBelow (λ x. isCode (getD codes x 0)) (rows * cols) ≡ false → 12 ≡ gridNumber
+          pub other-code : allBelow (λ x. isCode t (getD codes x 0)) (rows * cols) ≡ false → 12 ≡ gridNumber
           unfolding firstFailed check10 check11 check12
           other-code e = rw (a, b, le-leb (rows * cols) (length codes) h, c, e)
 
-          pub grid-passes : allBelow (λ x. isCode (getD codes x 0)) (rows * cols) ≡ true → 0 ≡ gridNumber
+          pub grid-passes : allBelow (λ x. isCode t (getD codes x 0)) (rows * cols) ≡ true → 0 ≡ gridNumber
           unfolding firstFailed check10 check11 check12
           grid-passes e = rw (a, b, le-leb (rows * cols) (length codes) h, c, e)
 

@@ -9,14 +9,14 @@ use native.Mathlib.Omega.{arith}
 use lib.ListN.{length, getD}
 use lib.Dec.{ltb, leb}
 use borrow.Author.Tests.{leb-true, ltb-true}
-use Rattle.lists.specs.Lists.{In}
+use Rattle.lists.specs.Lists.{In, different}
 use Rattle.lists.proofs.Lists.{and-both}
-use Rattle.ground.specs.Grid.{Grid, gridOf, cellCount, ground}
+use Rattle.ground.specs.Grid.{Grid, cellCount, ground}
 use Rattle.ground.specs.Accumulation.{agrees}
 use Rattle.moves.specs.Lent.{LentGrid}
 use Rattle.agreement.specs.Lent.{Lent}
-use Rattle.answers.specs.Checks.{Check, firstFailed, allPass, isSide, different}
-use Rattle.answers.specs.Checks.{check10, check11, check12, check14, check15, check16, check17, check18}
+use Rattle.answers.specs.Checks.{Check, firstFailed, allPass, isSide, check10, check11, check12, check14, check15}
+use Rattle.answers.specs.Checks.{check16, check17, check18}
 use Rattle.answers.specs.Entries.{Catchment, gridChecks, agreedChecks, outletChecks, placeChecks}
 use Rattle.answers.proofs.FirstFailed.{all-at, apart, passed, goes-on, never}
 use Rattle.checks.specs.Tests.{isPlaced}
@@ -43,23 +43,23 @@ pub record Sized (rows cols : ℕ) (codes lent : List ℕ) : Type 0 where
   pub reach : (m : ℕ) → In m lent → rows * cols ≤ m
 
 -- THE SIZES, where the number is none of 10 to 12
-pub sized : (rows cols : ℕ) (codes lent : List ℕ) (rest : List Check) (n : ℕ) → (n < 10) ⊎ (12 < n)
-    → firstFailed (gridChecks (gridOf rows cols codes) lent ++ rest) ≡ n → Sized rows cols codes lent
+pub sized : (g : Grid) (lent : List ℕ) (rest : List Check) (n : ℕ) → (n < 10) ⊎ (12 < n)
+    → firstFailed (gridChecks g lent ++ rest) ≡ n → Sized (g .rows) (g .cols) (g .codes) lent
 unfolding check10 check11 check12
-sized rows cols codes lent rest n i e =
-    let p = passed 12 n (gridChecks (gridOf rows cols codes) lent) rest refl i e in
-    let sides = and-both (isSide rows) (isSide cols) (p 10) in
-    let row = side-small rows (sides .0) in
-    let col = side-small cols (sides .1) in
-    let all = and-both (leb (rows * cols) (length codes)) (allPass (λ m. leb (rows * cols) m) lent) (p 11) in
+sized g lent rest n i e =
+    let p = passed 12 n (gridChecks g lent) rest refl i e in
+    let sides = and-both (isSide (g .rows)) (isSide (g .cols)) (p 10) in
+    let row = side-small (g .rows) (sides .0) in
+    let col = side-small (g .cols) (sides .1) in
+    let all = and-both (leb (cellCount g) (length (g .codes))) (allPass (λ m. leb (cellCount g) m) lent) (p 11) in
     record {
       grid = record {
         sides = record { rows-small = row .1; cols-small = col .1 };
-        has-codes = leb-true (rows * cols) (length codes) (all .0);
+        has-codes = leb-true (cellCount g) (length (g .codes)) (all .0);
       };
       some-rows = row .0;
       some-cols = col .0;
-      reach = reached (rows * cols) lent (all .1);
+      reach = reached (cellCount g) lent (all .1);
     }
 
 -- the same, where the accumulation is one of the lent grids

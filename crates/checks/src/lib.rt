@@ -2,16 +2,19 @@
 use agreement::agrees_all;
 use lists::index_of;
 use lists::is_among;
+use tables::all_codes;
+use tables::ours;
 ghost use mathlib.Core.Path.{_≡_};
 ghost use Prim.Native.Nat.{_≤_};
-ghost use lib.ListN.{length, getD};
+ghost use lib.ListN.{length};
 ghost use lib.Dec.{leb};
-ghost use Rattle.lists.specs.Lists.{In, allBelow};
-ghost use Rattle.ground.specs.Grid.{gridOf};
+ghost use Rattle.lists.specs.Lists.{In, different};
+ghost use Rattle.ground.specs.Tables.{Table, codesOf};
+ghost use Rattle.ground.specs.Grid.{gridIn, gridOf};
 ghost use Rattle.moves.specs.Lent.{LentGrid};
-ghost use Rattle.answers.specs.Checks.{firstFailed, allPass, isSide, isCode, different};
+ghost use Rattle.answers.specs.Checks.{firstFailed, allPass, isSide};
 ghost use Rattle.answers.specs.Entries.{catchment, gridChecks, agreedChecks, outletChecks, placeChecks};
-ghost use Rattle.checks.specs.Tests.{faultOf, isPlaced};
+ghost use Rattle.checks.specs.Tests.{isPlaced};
 
 // 10: is it a number of rows or of columns?
 fn is_side(n: usize) -> bool
@@ -37,36 +40,12 @@ fn all_reach(n: usize, lent: &[usize]) -> bool
     true
 }
 
-// 12: 0 for a code, 1 for any other byte.
-fn fault_of(code: u8) -> u8
-    ensures { λ r. ⌜ r ≡ faultOf (isCode code) ⌝ }
-{
-    match code {
-        0 | 1 | 2 | 4 | 8 | 16 | 32 | 64 | 128 => 0,
-        _ => 1,
-    }
-}
-
-// 12: are the first n bytes codes? No byte ends the loop, so that several can be looked at at once.
-pub fn all_codes(codes: &[u8], n: usize) -> bool
-    requires { ⌜ n ≤ length (now codes) ⌝ }
-    ensures { λ r. ⌜ r ≡ allBelow (λ x. isCode (getD (now (codes .entry)) x 0)) n ⌝ }
-{
-    let mut worst: u8 = 0;
-    let mut at: usize = 0;
-    while at < n {
-        let fault = fault_of(codes[at]);
-        at += 1;
-        if worst < fault {
-            worst = fault;
-        }
-    }
-    worst == 0
-}
-
-// 10, 11, 12. The lengths of the other lent grids are given. No product is taken before 10 is passed.
-pub fn grid_number(rows: usize, cols: usize, codes: &[u8], lent: &[usize]) -> u32
-    ensures { λ r. ⌜ r ≡ firstFailed (gridChecks (gridOf rows cols (now (codes .entry))) (now (lent .entry))) ⌝ }
+// 10, 11, 12, of codes in the given table. The lengths of the other lent grids are given. No product is taken before 10
+// is passed.
+pub fn number_in(table: &[u8; 9], rows: usize, cols: usize, codes: &[u8], lent: &[usize]) -> u32
+    requires { ⌜ length (now table) ≡ 9 ⌝ }
+    ensures { λ r. ⌜ ((t : Table) → now (table .entry) ≡ codesOf t
+        → r ≡ firstFailed (gridChecks (gridIn t rows cols (now (codes .entry))) (now (lent .entry)))) ⌝ }
 {
     if !is_side(rows) {
         return 10;
@@ -81,10 +60,18 @@ pub fn grid_number(rows: usize, cols: usize, codes: &[u8], lent: &[usize]) -> u3
     if !all_reach(n, lent) {
         return 11;
     }
-    if !all_codes(codes, n) {
+    if !all_codes(table, codes, n) {
         return 12;
     }
     0
+}
+
+// The same of codes in our table.
+pub fn grid_number(rows: usize, cols: usize, codes: &[u8], lent: &[usize]) -> u32
+    ensures { λ r. ⌜ r ≡ firstFailed (gridChecks (gridOf rows cols (now (codes .entry))) (now (lent .entry))) ⌝ }
+{
+    let table = ours();
+    number_in(&table, rows, cols, codes, lent)
 }
 
 // 10, 11, 12, 14. The lengths of the lent grids but the codes are given, the accumulation's among them.

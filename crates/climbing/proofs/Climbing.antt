@@ -10,7 +10,7 @@ use lib.ListN.{length, getD, take}
 use lib.Seq.{getD-set-same, getD-set-other}
 use lib.Dec.{eqb}
 use borrow.Author.Tests.{eqb-true, eq-eqb, ne-eqb}
-use Rattle.lists.specs.Lists.{member}
+use Rattle.lists.specs.Lists.{member, different}
 use Rattle.lists.proofs.Lists.{and-both}
 use Rattle.lists.proofs.Counts.{also, also-same, also-or, also-in, many-more}
 use Rattle.lists.proofs.Kept.{kept-all, kept-set}
@@ -25,7 +25,6 @@ use Rattle.ground.specs.Subwatershed.{isOutlet}
 use Rattle.ground.proofs.Cells.{opposite-twice, ground-within, code-inside}
 use Rattle.ground.proofs.GridNetwork.{network, stepped}
 use Rattle.ground.proofs.FlowLengths.{arrival-up, arrival-small, step-counts}
-use Rattle.answers.specs.Checks.{different}
 use Rattle.answers.specs.FlowLengths.{LengthGrids, lengthGrids}
 use Rattle.moves.specs.Moves.{dirAt, leadOf, stepBy}
 use Rattle.moves.proofs.Codes.{step-points}
@@ -38,10 +37,8 @@ use Rattle.traversal.specs.Traversal.{Tributary, Traversal, Here}
 use Rattle.traversal.specs.Turns.{NextTurn, HasNeighbour, HasNext}
 use Rattle.traversal.proofs.Traversing.{begun, begun-here, entering, entering-here, leaving, leaving-here}
 use Rattle.traversal.proofs.Tributaries.{none-ahead, found-beside, found-tributary, found-far, found-next}
-use Rattle.lengthgrids.specs.Grids.{Room, GridsKept, lengthBelow, lengthAbove}
-use Rattle.climbing.specs.Giving.{Climbable, downAt, blanks}
-use Rattle.lengthgrids.specs.Grids.{Countable, GivesDown, GivesUp}
-use Rattle.climbing.specs.Giving.{Resting, Climbing}
+use Rattle.lengthgrids.specs.Grids.{Room, GridsKept, lengthBelow, lengthAbove, Countable, GivesDown, GivesUp}
+use Rattle.climbing.specs.Giving.{Climbable, downAt, blanks, Resting, Climbing}
 use Rattle.lengthgrids.proofs.Kept.{kept-grids, kept-on, kept-room, kept-if}
 use Rattle.climbing.proofs.Giving.{one-each, entered-ground, given-begun, given-left, given-up, up-small}
 use Rattle.climbing.proofs.Giving.{given-down}

@@ -9,7 +9,7 @@ use mathlib.Core.Option.{some}
 use Prim.Native.Nat.{ℕ, _+_, _*_, _≤_, _<_, _^_}
 use lib.ListN.{length, getD, take}
 use lib.Dec.{eqb}
-use Rattle.lists.specs.Lists.{member, howMany}
+use Rattle.lists.specs.Lists.{member, howMany, different}
 use Rattle.lengths.specs.declared.Length.{Length}
 use Rattle.lengths.specs.Rule.{counts, plusStep, isShorter}
 use Rattle.ground.specs.Compass.{Dir, opposite, stepOf}
@@ -17,7 +17,6 @@ use Rattle.ground.specs.Grid.{Grid, gridOf, cellCount, ground, next}
 use Rattle.ground.specs.Accumulation.{agrees}
 use Rattle.ground.specs.Subwatershed.{isOutlet}
 use Rattle.ground.specs.FlowLengths.{upstreamLength, arrival}
-use Rattle.answers.specs.Checks.{different}
 use Rattle.answers.specs.FlowLengths.{LengthGrids}
 use Rattle.moves.specs.Lent.{LentGrid}
 use Rattle.traversal.specs.Traversal.{Tributary, Traversal, Here}

@@ -8,6 +8,7 @@ use native.Mathlib.Nat.{div-add-mod', mod-lt, div-lt-iff-lt-mul}
 use native.Mathlib.Omega.{arith}
 use lib.ListN.{length, getD}
 use lib.Arith.{digits-lt}
+use Rattle.ground.specs.Tables.{table1, dirOf}
 use Rattle.downstream.specs.declared.Downstream.{Downstream}
 use Rattle.downstream.specs.declared.Downstream.the-variants.{End, To}
 use Rattle.moves.specs.declared.Move.{Move}
@@ -15,7 +16,6 @@ use Rattle.moves.specs.declared.Lead.{Lead}
 use Rattle.moves.specs.declared.Lead.the-variants.{Nowhere, By}
 use Rattle.moves.specs.declared.Spot.{Spot}
 use Rattle.moves.specs.declared.Spot.the-variants.{Off, On}
-use Rattle.ground.specs.Compass.{dirOf}
 use Rattle.ground.specs.Grid.{Grid, gridOf}
 use Rattle.moves.specs.Lent.{LentGrid}
 use Rattle.moves.specs.Moves.{leadOf, InReach, Spotted}
@@ -89,12 +89,12 @@ module _ {rows cols row col at : ℕ} {codes offsets : List ℕ} (n : Numbered r
         pub ends-off : s ≡ Off → FlowsOn (gridOf rows cols codes) at End
         ends-off e = ended (flows-off (n .on) led p e)
 
-        module _ {r c place : ℕ} (e : s ≡ On r c) (is-place : place ≡ placeBy (dirOf (getD codes at 0))) where
+        module _ {r c place : ℕ} (e : s ≡ On r c) (is-place : place ≡ placeBy (dirOf table1 (getD codes at 0))) where
           -- the offset is that of the code's direction
           offset-is : getD offsets place 0 ≡ offsetOf cols (led .dir)
           offset-is =
               let q : place ≡ placeBy (some (led .dir)) =
-              is-place ∙ ap (λ (x : ℕ). placeBy (dirOf (getD codes x 0))) (n .is-at) ∙ ap placeBy (led .points) in
+              is-place ∙ ap (λ (x : ℕ). placeBy (dirOf table1 (getD codes x 0))) (n .is-at) ∙ ap placeBy (led .points) in
               ap (λ (l : List ℕ). getD l place 0) (n .are-offsets) ∙ rw q (offset-at cols (led .dir))
 
           pub number-is : at + getD offsets place 0 ≡ r * cols + c + (cols + 1)

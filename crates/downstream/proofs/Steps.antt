@@ -1,34 +1,40 @@
 -- The offset of a step, and the number of the cell that it leads to.
 -- Assumes nothing.
-use mathlib.Core.Path.{_≡_, refl, sym, ap}
+use mathlib.Core.Path.{_≡_, refl, ap}
 use mathlib.Core.Bool.{Bool, true, false, cond}
 use mathlib.Core.Option.{Option, none, some}
 use Prim.Native.Nat.{ℕ, zero, suc, _+_, _-_, _*_, _≤_, _<_}
 use native.Mathlib.Nat.{add-mul}
 use native.Mathlib.Omega.{arith}
 use lib.ListN.{getD}
-use lib.Dec.{eqb, ltb}
-use borrow.Author.Tests.{ne-eqb}
-use Rattle.ground.specs.Compass.{Dir, E, SE, S, SW, W, NW, N, NE, placeOf, codeOf, dirOf}
-use Rattle.ground.specs.Compass.{Shift, less, as-is, more, shifted, rowShift, colShift}
+use lib.Dec.{ltb}
+use Rattle.ground.specs.Compass.{Dir, E, SE, S, SW, W, NW, N, NE, placeOf, Shift, less, as-is, more, shifted, rowShift}
+use Rattle.ground.specs.Compass.{colShift}
+use Rattle.ground.specs.Tables.{table1, dirOf}
 use Rattle.ground.specs.Grid.{cellAt}
+use Rattle.ground.proofs.Tables.{table-facts}
 use Rattle.moves.specs.Moves.{shiftNumber}
 use Rattle.moves.proofs.Spots.{shift-le}
 use Rattle.downstream.specs.Offsets.{placeBy, offsetOf, offsetsOf}
 
--- what is none of the first seven codes has the last place
+-- what is none of the first seven of our codes has the last place
 pub last-place : {k : ℕ} → (k ≡ 1 → ⊥) → (k ≡ 2 → ⊥) → (k ≡ 4 → ⊥) → (k ≡ 8 → ⊥) → (k ≡ 16 → ⊥) → (k ≡ 32 → ⊥)
-    → (k ≡ 64 → ⊥) → 7 ≡ placeBy (dirOf k)
-unfolding dirOf
-last-place {k} e se s sw w nw n =
-    rw (other E e, other SE se, other S s, other SW sw, other W w, other NW nw, other N n) (go (eqb 128 k))
+    → (k ≡ 64 → ⊥) → 7 ≡ placeBy (dirOf table1 k)
+last-place {k} e se s sw w nw n = go (dirOf table1 k) refl
   where
-    other : (d : Dir) → (k ≡ codeOf d → ⊥) → eqb (codeOf d) k ≡ false
-    other d f = ne-eqb (codeOf d) k (λ q. f (sym q))
+    is : (d : Dir) → dirOf table1 k ≡ some d → k ≡ table1 .codeOf d
+    is = table-facts table1 .only k
 
-    go : (b : Bool) → 7 ≡ placeBy (cond b (some NE) none)
-    go true = refl
-    go false = refl
+    go : (o : Option Dir) → dirOf table1 k ≡ o → 7 ≡ placeBy (dirOf table1 k)
+    go none q = rw q
+    go (some E) q = absurd (e (is E q))
+    go (some SE) q = absurd (se (is SE q))
+    go (some S) q = absurd (s (is S q))
+    go (some SW) q = absurd (sw (is SW q))
+    go (some W) q = absurd (w (is W q))
+    go (some NW) q = absurd (nw (is NW q))
+    go (some N) q = absurd (n (is N q))
+    go (some NE) q = rw q
 
 pub place-small : (d : Dir) → placeOf d < 8
 place-small E = omega arith

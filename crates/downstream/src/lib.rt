@@ -5,7 +5,7 @@ use moves::lead_of;
 use moves::spot_at;
 ghost use mathlib.Core.Path.{_≡_};
 ghost use Prim.Native.Nat.{_+_, _≤_};
-ghost use Rattle.ground.specs.Compass.{dirOf};
+ghost use Rattle.ground.specs.Tables.{table1, dirOf};
 ghost use Rattle.ground.specs.Grid.{gridOf};
 ghost use Rattle.downstream.specs.Offsets.{placeBy, offsetsOf};
 ghost use Rattle.downstream.specs.Flowing.{Numbered, FlowsOn};
@@ -18,7 +18,7 @@ pub enum Downstream {
 
 // The place of a code's direction in the order of the neighbours; the last where the code has none.
 pub fn place_of(code: u8) -> usize
-    ensures { λ r. ⌜ r ≡ placeBy (dirOf code) ⌝ }
+    ensures { λ r. ⌜ r ≡ placeBy (dirOf table1 code) ⌝ }
 {
     match code {
         1 => 0,

@@ -164,7 +164,7 @@ module _ {c : Catchment} {o start : ℕ} {w : Walk} {cell mark : ℕ} (f : Follo
         sym (rw (f .same-end, belongs-out (next (c .grid)) (out c) squares (f .left) o cell v, ne-eqb cell o e))
 
   -- AT ANOTHER CELL it ends, or goes on
-  module _ {r : Walk} (on : WalkedOn (c .grid .rows) (c .grid .cols) (c .grid .codes) w r) where
+  module _ {r : Walk} (on : WalkedOn (c .grid) w r) where
     pub lost : member cell (c .outlets) ≡ false → cellOf (c .grid .cols) r ≡ cell
         → 0 ≡ pathLength (c .grid) (c .outlets) o start
     unfolding pathLength

@@ -68,7 +68,7 @@ module _ (q : Drawing) where
       size : let g = q .catchment .grid in
           Sized (g .rows) (g .cols) (g .codes) (length (q .catchment .accumulation) ∷ [])
       size = let g = q .catchment .grid in
-          sized (g .rows) (g .cols) (g .codes) (length (q .catchment .accumulation) ∷ []) _ 0 (inl (omega arith)) passes
+          sized g (length (q .catchment .accumulation) ∷ []) _ 0 (inl (omega arith)) passes
 
       list : Listed (q .catchment .grid) (q .catchment .accumulation) (q .catchment .outlets)
       list = listed (q .catchment) (length (q .catchment .accumulation) ∷ [])

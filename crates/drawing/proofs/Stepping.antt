@@ -33,7 +33,7 @@ pub record Onward (g : Grid) (w r : Walk) : Type 0 where
   pub to-cell : cellOf (g .cols) r ≡ link .cell
   pub one-more : steps r ≡ steps w + 1
 
-module _ (g : Grid) {w r : Walk} (on : WalkedOn (g .rows) (g .cols) (g .codes) w r) where
+module _ (g : Grid) {w r : Walk} (on : WalkedOn g w r) where
   along : (h : Link Dir) → next g (cellOf (g .cols) w) ≡ some h → Onward g w r
   along h e = record {
     link = h;

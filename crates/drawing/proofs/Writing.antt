@@ -107,7 +107,7 @@ module _ {g : Grid} {start count : ℕ} {old : List ℕ} (d : Drawable g start c
     }
 
     pub writing-more : 0 < left → {cell : ℕ} → cell ≡ cellOf (g .cols) w
-        → {r : Walk} → WalkedOn (g .rows) (g .cols) (g .codes) w r
+        → {r : Walk} → WalkedOn g w r
         → Writing g start count old (set new (count - left) cell) r (left - 1)
     unfolding cellAfter
     writing-more h {cell} is {r} on =

@@ -17,18 +17,19 @@ use Rattle.lists.proofs.Overlaid.{front-is}
 use Rattle.lengths.specs.declared.Length.{Length}
 use Rattle.lengths.specs.Rule.{counts}
 use Rattle.ground.specs.Compass.{squares}
+use Rattle.ground.specs.Tables.{table1}
 use Rattle.ground.specs.Grid.{Grid, gridOf, next}
 use Rattle.ground.specs.Walk.{At}
 use Rattle.ground.specs.Subwatershed.{isOutlet}
 use Rattle.ground.specs.FlowLengths.{FlowLengths, upstreamLength, arrival, lengthsBy, flowLengths, lengthGrid}
-use Rattle.ground.proofs.Cells.{ground-within}
+use Rattle.ground.proofs.Cells.{of-ours, ground-within}
 use Rattle.ground.proofs.Ground.{grid-length, grid-at}
 use Rattle.ground.proofs.FlowLengths.{arrival-outlet}
 use Rattle.answers.specs.Checks.{firstFailed}
 use Rattle.answers.specs.Entries.{Catchment, outletChecks}
 use Rattle.answers.specs.FlowLengths.{LengthGrids, lengthGrids, gridLengths, lengthsOver}
 use Rattle.answers.specs.FlowLengths.{flowLengthsNumber, flowLengthsLeaves, TellsFlowLengths}
-use Rattle.checks.proofs.Passed.{sized, listed}
+use Rattle.checks.proofs.Passed.{Listed, sized, listed}
 use Rattle.traversal.specs.Traversal.{Traversal}
 use Rattle.traversal.proofs.Traversing.{untouched, left-all}
 use Rattle.lengthgrids.specs.Grids.{GridsKept, MarkedWith, Prepared}
@@ -168,11 +169,13 @@ module _ (c : Catchment) (old : LengthGrids) {number : ℕ} (is : number ≡ fir
 
   -- ACCEPTED
   module _ (z : number ≡ 0) where
-    pub climbable : Climbable (c .grid .rows) (c .grid .cols) (c .grid .codes) (c .outlets) old
-    climbable =
+    pub climbable : c .grid .table ≡ table1
+        → Climbable (c .grid .rows) (c .grid .cols) (c .grid .codes) (c .outlets) old
+    climbable ours =
         let e : firstFailed (outletChecks c (gridLengths c old) ++ []) ≡ 0 = sym is ∙ z in
-        let s = sized (c .grid .rows) (c .grid .cols) (c .grid .codes) (gridLengths c old) _ 0 (inl (omega arith)) e in
-        let l = listed c (gridLengths c old) [] 0 (inl (omega arith)) e in
+        let s = sized (c .grid) (gridLengths c old) _ 0 (inl (omega arith)) e in
+        let l = subst (λ g. Listed g (c .accumulation) (c .outlets)) (sym (of-ours (c .grid) ours))
+        (listed c (gridLengths c old) [] 0 (inl (omega arith)) e) in
         record {
           grid = s .grid;
           some-cols = s .some-cols;

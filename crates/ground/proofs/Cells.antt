@@ -2,6 +2,7 @@
 -- Assumes nothing.
 use mathlib.Core.Path.{_≡_, refl, sym, ap, _∙_, subst}
 use mathlib.Core.Bool.{Bool, true, false, not, true≢false}
+use mathlib.Core.Logic.{inl}
 use mathlib.Core.List.{List, [], _∷_, map}
 use mathlib.Core.Option.{Option, none, some}
 use Prim.Native.Nat.{ℕ, zero, suc, _+_, _*_, _/_, _%_, _≤_, _<_}
@@ -12,36 +13,14 @@ use lib.ListN.{getD}
 use lib.Arith.{digits-div, digits-mod}
 use lib.Dec.{eqb, ltb}
 use borrow.Author.Tests.{eqb-true, eq-eqb, ne-eqb, ltb-true, lt-ltb, le-ltb}
-use Rattle.lists.specs.Lists.{sumOf}
-use Rattle.ground.specs.Compass.{
-  Dir,
-  E,
-  SE,
-  S,
-  SW,
-  W,
-  NW,
-  N,
-  NE,
-  dirs,
-  placeOf,
-  codeOf,
-  findDir,
-  dirOf,
-  pointsIn,
-  opposite,
-  Shift,
-  less,
-  as-is,
-  more,
-  shifted,
-  rowShift,
-  colShift,
-}
+use Rattle.lists.specs.Lists.{sumOf, member}
+use Rattle.ground.specs.Compass.{Dir, E, SE, S, SW, W, NW, N, NE, dirs, placeOf, opposite, Shift, less, as-is}
+use Rattle.ground.specs.Compass.{more, shifted, rowShift, colShift}
+use Rattle.ground.specs.Tables.{Table, table1, dirOf, pointsIn}
 use Rattle.ground.specs.Grid.{Grid, cellAt, cellCount, codeAt, ground, neighbour, flow, onto, next, inflowRecord}
-use Rattle.ground.specs.Grid.{inflowsFrom, inflows}
+use Rattle.ground.specs.Grid.{gridIn, gridOf, inflowsFrom, inflows}
 use Rattle.ground.specs.Accumulation.{gathered, balance, subaccumulation}
-use Rattle.lists.specs.Lists.{member}
+use Rattle.ground.proofs.Tables.{table-facts, undirected-none}
 
 -- THE ORDER: `dirs` is the order of `placeOf`, and both are E, SE, S, SW, W, NW, N, NE
 pub dirs-in-order : map placeOf dirs ≡ 0 ∷ 1 ∷ 2 ∷ 3 ∷ 4 ∷ 5 ∷ 6 ∷ 7 ∷ []
@@ -56,40 +35,6 @@ opposite-twice W = refl
 opposite-twice NW = refl
 opposite-twice N = refl
 opposite-twice NE = refl
-
--- a direction is found by its code
-pub dir-code : (d : Dir) → dirOf (codeOf d) ≡ some d
-unfolding dirOf
-dir-code E = refl
-dir-code SE = refl
-dir-code S = refl
-dir-code SW = refl
-dir-code W = refl
-dir-code NW = refl
-dir-code N = refl
-dir-code NE = refl
-
--- and only by it
-find-code : (ds : List Dir) (code : ℕ) (d : Dir) → findDir ds code ≡ some d → code ≡ codeOf d
-find-code [] code d e = let w : _≡_ {A = ℕ} 0 1 = cc in absurd (omega arith)
-find-code (f ∷ ds) code d e = go (eqb (codeOf f) code) refl (find-code ds code d)
-  where
-    go : (b : Bool) → eqb (codeOf f) code ≡ b → (findDir ds code ≡ some d → code ≡ codeOf d) → code ≡ codeOf d
-    go true h ih = let p : some f ≡ some d = sym (rw h) ∙ e in let q : f ≡ d = cc in sym (eqb-true (codeOf f) code h)
-        ∙ ap codeOf q
-    go false h ih = ih (sym (rw h) ∙ e)
-
-pub dir-is : (code : ℕ) (d : Dir) → dirOf code ≡ some d → code ≡ codeOf d
-unfolding dirOf
-dir-is code d e = find-code dirs code d e
-
-pub null-dir : dirOf 0 ≡ none
-unfolding dirOf
-null-dir = refl
-
--- codes tell directions apart
-pub code-dir : (d e : Dir) → codeOf d ≡ codeOf e → d ≡ e
-code-dir d e h = let p : some d ≡ some e = sym (dir-code d) ∙ ap dirOf h ∙ dir-code e in cc
 
 -- a shift taken back
 abbrev back : Shift → Shift
@@ -154,6 +99,10 @@ cell-is : (cols : ℕ) (a b : Option ℕ) (y : ℕ) → cellAt cols a b ≡ some
 cell-is cols none b y e = let w : _≡_ {A = ℕ} 0 1 = cc in absurd (omega arith)
 cell-is cols (some r) none y e = let w : _≡_ {A = ℕ} 0 1 = cc in absurd (omega arith)
 cell-is cols (some r) (some c) y e = record { row = r; col = c; is-row = refl; is-col = refl; is-cell = cc }
+
+-- a grid of our table is made of its sides and codes
+pub of-ours : (g : Grid) → g .table ≡ table1 → gridOf (g .rows) (g .cols) (g .codes) ≡ g
+of-ours g e = ap (λ (t : Table). gridIn t (g .rows) (g .cols) (g .codes)) (sym e)
 
 module _ (g : Grid) where
   pub code-inside : (x : ℕ) → x < cellCount g → codeAt g x ≡ getD (g .codes) x 0
@@ -220,15 +169,17 @@ module _ (g : Grid) where
   flow-ground y e f = go (eqb (codeAt g y) 0) refl
     where
       go : (b : Bool) → eqb (codeAt g y) 0 ≡ b → not b ≡ true
-      go true h = let z : flow g y ≡ none = ap dirOf (eqb-true (codeAt g y) 0 h) ∙ null-dir in cc
+      go true h = let z : flow g y ≡ none = ap (dirOf (g .table)) (eqb-true (codeAt g y) 0 h)
+          ∙ undirected-none (g .table) 0 (inl refl) in cc
       go false h = refl
 
   -- a code that points in a direction
-  pub points-flow : (d : Dir) (y : ℕ) → pointsIn d (codeAt g y) ≡ true → flow g y ≡ some d
-  points-flow d y h = ap dirOf (eqb-true (codeAt g y) (codeOf d) h) ∙ dir-code d
+  pub points-flow : (d : Dir) (y : ℕ) → pointsIn (g .table) d (codeAt g y) ≡ true → flow g y ≡ some d
+  points-flow d y h = ap (dirOf (g .table)) (eqb-true (codeAt g y) (g .table .codeOf d) h)
+      ∙ table-facts (g .table) .found d
 
-  pub flow-points : (d : Dir) (y : ℕ) → flow g y ≡ some d → pointsIn d (codeAt g y) ≡ true
-  flow-points d y f = eq-eqb (codeAt g y) (codeOf d) (dir-is (codeAt g y) d f)
+  pub flow-points : (d : Dir) (y : ℕ) → flow g y ≡ some d → pointsIn (g .table) d (codeAt g y) ≡ true
+  flow-points d y f = eq-eqb (codeAt g y) (g .table .codeOf d) (table-facts (g .table) .only (codeAt g y) d f)
 
   -- the walk's step by cases
   pub next-along : (x : ℕ) (d : Dir) → flow g x ≡ some d → next g x ≡ onto g d (neighbour g x d)

@@ -9,14 +9,15 @@ use Prim.Native.Nat.{ℕ, suc, _+_, _≤_}
 use native.Mathlib.Omega.{arith}
 use lib.ListN.{getD}
 use lib.Dec.{eqb}
-use borrow.Author.Tests.{eqb-true}
+use borrow.Author.Tests.{eqb-true, eq-eqb}
 use Rattle.lists.specs.Lists.{In, Every, sumOf}
-use Rattle.ground.specs.Compass.{Dir, E, SE, S, SW, W, NW, N, NE, dirs, placeOf, codeOf, opposite}
-use Rattle.ground.specs.Grid.{Grid, Link, cellCount, codeAt, ground, neighbour, flow, next, flowsIn, inflow}
-use Rattle.ground.specs.Grid.{inflowsFrom, inflows, inflowValue, inflowRecord}
+use Rattle.ground.specs.Compass.{Dir, E, SE, S, SW, W, NW, N, NE, dirs, placeOf, opposite}
+use Rattle.ground.specs.Grid.{Grid, Link, cellCount, ground, neighbour, flow, next, flowsIn, inflow, inflowsFrom}
+use Rattle.ground.specs.Grid.{inflows, inflowValue, inflowRecord}
 use Rattle.ground.specs.Accumulation.{total}
 use Rattle.ground.proofs.Sums.{one}
 use Rattle.ground.proofs.Network.{times, Network}
+use Rattle.ground.proofs.Tables.{all-dirs}
 use Rattle.ground.proofs.Agreement.{noOutlet}
 use Rattle.ground.proofs.Cells.{opposite-twice, ground-within, neighbour-back, flow-ground, points-flow}
 use Rattle.ground.proofs.Cells.{flow-points, next-along, next-none, next-is, ground-inflows, null-inflows}
@@ -127,42 +128,35 @@ module _ (g : Grid) where
           ∙ ap₂ (λ (u : Dir) (c : ℕ). flowsIn g u (some c)) q r ∙ f′))
       away e ds ks z n′ f′ ih (inr i) = ih i
 
-  all-dirs : (d : Dir) → In d dirs
-  all-dirs E = inl refl
-  all-dirs SE = inr (inl refl)
-  all-dirs S = inr (inr (inl refl))
-  all-dirs SW = inr (inr (inr (inl refl)))
-  all-dirs W = inr (inr (inr (inr (inl refl))))
-  all-dirs NW = inr (inr (inr (inr (inr (inl refl)))))
-  all-dirs N = inr (inr (inr (inr (inr (inr (inl refl))))))
-  all-dirs NE = inr (inr (inr (inr (inr (inr (inr (inl refl)))))))
+  -- each once: the direction in which a cell flows says on which side it lies
+  hits : Dir → List Dir → ℕ
+  hits e [] = 0
+  hits e (d ∷ ds) = cond (eqb (placeOf e) (placeOf (opposite d))) 1 0 + hits e ds
 
-  -- each once: a cell's own code says on which side it lies
-  hits : ℕ → List Dir → ℕ
-  hits code [] = 0
-  hits code (d ∷ ds) = cond (eqb code (codeOf (opposite d))) 1 0 + hits code ds
-
-  hits-code : (e : Dir) → hits (codeOf e) dirs ≡ 1
+  hits-once : (e : Dir) → hits e dirs ≡ 1
   unfolding hits
-  hits-code E = refl
-  hits-code SE = refl
-  hits-code S = refl
-  hits-code SW = refl
-  hits-code W = refl
-  hits-code NW = refl
-  hits-code N = refl
-  hits-code NE = refl
+  hits-once E = refl
+  hits-once SE = refl
+  hits-once S = refl
+  hits-once SW = refl
+  hits-once W = refl
+  hits-once NW = refl
+  hits-once N = refl
+  hits-once NE = refl
 
-  times-hits : (x c : ℕ) (ds : List Dir) → times c (inflowsFrom g ds x) ≤ hits (codeAt g c) ds
+  times-hits : (x c : ℕ) (e : Dir) → flow g c ≡ some e → (ds : List Dir) → times c (inflowsFrom g ds x) ≤ hits e ds
   unfolding hits
-  times-hits x c = inflows-induct x (λ ds ks. times c ks ≤ hits (codeAt g c) ds) (omega arith)
+  times-hits x c e p = inflows-induct x (λ ds ks. times c ks ≤ hits e ds) (omega arith)
       (λ d ds ks n ih. omega arith) (λ d ds ks y n f ih. omega (arith, here d y f (eqb y c) refl))
       (λ d ds ks y n f ih. omega arith)
     where
       here : (d : Dir) (y : ℕ) → flowsIn g d (some y) ≡ true → (b : Bool) → eqb y c ≡ b
-          → one y c ≤ cond (eqb (codeAt g c) (codeOf (opposite d))) 1 0
-      here d y f true q = rw (q, one)
-          (rw (sym (ap (λ (z : ℕ). eqb (codeAt g z) (codeOf (opposite d))) (eqb-true y c q)) ∙ f) (omega arith))
+          → one y c ≤ cond (eqb (placeOf e) (placeOf (opposite d))) 1 0
+      here d y f true q =
+          let r : some e ≡ some (opposite d) = sym p ∙ ap (flow g) (sym (eqb-true y c q))
+          ∙ points-flow g (opposite d) y f in
+          let w : e ≡ opposite d = cc in
+          rw (q, one, eq-eqb (placeOf e) (placeOf (opposite d)) (ap placeOf w)) (omega arith)
       here d y f false q = rw (q, one) (omega arith)
 
   times-none : (x c : ℕ) → flow g c ≡ none → (ds : List Dir) → times c (inflowsFrom g ds x) ≡ 0
@@ -179,13 +173,7 @@ module _ (g : Grid) where
     where
       go : (o : Option Dir) → flow g c ≡ o → times c (inflowsFrom g dirs x) ≤ 1
       go none f = omega (arith, times-none x c f dirs)
-      go (some e) f = omega (
-        arith,
-        times-hits x c dirs,
-        ap (λ (k : ℕ). hits k dirs)
-            (eqb-true (codeAt g c) (codeOf e) (flow-points g e c f)),
-        hits-code e,
-      )
+      go (some e) f = omega (arith, times-hits x c e f dirs, hits-once e)
 
   -- A GRID IS A NETWORK
   pub network : Network (next g) (inflows g) (ground g) (cellCount g)

@@ -5,9 +5,11 @@ pub mod Agreement
 pub mod Endings
 pub mod Rings
 pub mod Subwatersheds
+pub mod Tables
 pub mod Cells
 pub mod GridNetwork
 pub mod Ground
 pub mod AllOutlets
 pub mod FlowLengths
 pub mod Through
+pub mod Converting

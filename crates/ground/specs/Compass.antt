@@ -1,10 +1,10 @@
--- The eight directions: their order, codes and steps.
+-- The eight directions: their order and their steps.
 -- Assumes nothing.
-use mathlib.Core.Bool.{Bool, cond}
+use mathlib.Core.Bool.{cond}
 use mathlib.Core.List.{List, [], _∷_}
 use mathlib.Core.Option.{Option, none, some}
 use Prim.Native.Nat.{ℕ, zero, suc}
-use lib.Dec.{eqb, ltb}
+use lib.Dec.{ltb}
 use Rattle.lengths.specs.declared.Step.{Step}
 use Rattle.lengths.specs.declared.Step.the-variants.{Straight, Diagonal}
 use Rattle.lengths.specs.Lengths.{Lengths, squareCells, steppedBy}
@@ -26,29 +26,6 @@ placeOf W = 4
 placeOf NW = 5
 placeOf N = 6
 placeOf NE = 7
-
--- the table of codes
-abbrev pub codeOf : Dir → ℕ
-codeOf E = 1
-codeOf SE = 2
-codeOf S = 4
-codeOf SW = 8
-codeOf W = 16
-codeOf NW = 32
-codeOf N = 64
-codeOf NE = 128
-
-abbrev pub findDir : List Dir → ℕ → Option Dir
-findDir [] code = none
-findDir (d ∷ ds) code = cond (eqb (codeOf d) code) (some d) (findDir ds code)
-
--- the direction that a code points in; none for 0 and for what is no code
-unfoldable pub dirOf : ℕ → Option Dir
-dirOf code = findDir dirs code
-
--- is this the code of that direction?
-abbrev pub pointsIn : Dir → ℕ → Bool
-pointsIn d code = eqb code (codeOf d)
 
 abbrev pub opposite : Dir → Dir
 opposite E = W

@@ -6,17 +6,23 @@ use mathlib.Core.Option.{Option, none, some}
 use Prim.Native.Nat.{ℕ, _+_, _*_, _/_, _%_}
 use lib.ListN.{getD}
 use lib.Dec.{eqb, ltb}
-use Rattle.ground.specs.Compass.{Dir, dirs, dirOf, opposite, pointsIn, shifted, rowShift, colShift}
+use Rattle.ground.specs.Compass.{Dir, dirs, opposite, shifted, rowShift, colShift}
+use Rattle.ground.specs.Tables.{Table, table1, dirOf, pointsIn}
 
 -- 01, The ground: so many rows and columns, and a code for each cell. The codes stand row by row in the first R × C
--- places of the list
+-- places of the list; 02: they are of a table
 pub record Grid : Type 0 where
+  pub table : Table
   pub rows : ℕ
   pub cols : ℕ
   pub codes : List ℕ
 
+abbrev pub gridIn : Table → ℕ → ℕ → List ℕ → Grid
+gridIn table rows cols codes = record { table = table; rows = rows; cols = cols; codes = codes }
+
+-- a grid of our table, as all entries but the converter take it
 abbrev pub gridOf : ℕ → ℕ → List ℕ → Grid
-gridOf rows cols codes = record { rows = rows; cols = cols; codes = codes }
+gridOf = gridIn table1
 
 -- a cell, and the step between it and another
 pub record Link (S : Type 0) : Type 0 where
@@ -50,7 +56,7 @@ module _ (g : Grid) where
 
   -- the direction that a cell's code points in
   abbrev pub flow : ℕ → Option Dir
-  flow x = dirOf (codeAt x)
+  flow x = dirOf (g .table) (codeAt x)
 
   -- a step onto a neighbour: not off the grid, nor to a null cell
   abbrev pub onto : Dir → Option ℕ → Option (Link Dir)
@@ -68,7 +74,7 @@ module _ (g : Grid) where
   -- a neighbour flows in if its code points back: in the direction opposite to the one in which it lies
   abbrev pub flowsIn : Dir → Option ℕ → Bool
   flowsIn d none = false
-  flowsIn d (some y) = pointsIn (opposite d) (codeAt y)
+  flowsIn d (some y) = pointsIn (g .table) (opposite d) (codeAt y)
 
   -- 01's inflow record, a term of its own: in neighbour order, the number of each neighbour that flows in, and 0 for
   -- the others

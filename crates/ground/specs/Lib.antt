@@ -1,7 +1,9 @@
 pub mod Compass
+pub mod Tables
 pub mod Grid
 pub mod Walk
 pub mod Accumulation
 pub mod Subwatershed
 pub mod Forest
 pub mod FlowLengths
+pub mod Converting

@@ -12,7 +12,9 @@ use lib.Seq.{take-suc, getD-set-same, getD-set-other, ext-getD}
 use lib.Dec.{eqb}
 use borrow.Author.Count.{below-more}
 use Rattle.lists.specs.Lists.{sumOf}
-use Rattle.ground.specs.Compass.{Dir, NE, dirs, codeOf, opposite}
+use Rattle.lists.proofs.Lists.{getD-map}
+use Rattle.ground.specs.Compass.{Dir, NE, dirs, opposite}
+use Rattle.ground.specs.Tables.{table1}
 use Rattle.ground.specs.Grid.{Grid, gridOf, neighbour, flowsIn, inflowValue, inflowRecord}
 use Rattle.ground.proofs.Cells.{code-inside}
 use Rattle.moves.specs.declared.Neighbour.{Neighbour}
@@ -88,7 +90,8 @@ module _ {rows cols : ℕ} {codes : List ℕ} {row col : ℕ} (i : InnerOn rows 
         inside = within;
         is-there = there-is;
         is-inflow = sym (ap (flowsIn (gridOf rows cols codes) (dirAt k)) there-is
-            ∙ ap (λ (x : ℕ). eqb x (codeOf (opposite (dirAt k)))) (code-inside (gridOf rows cols codes) there within)
+            ∙ ap (λ (x : ℕ). eqb x (table1 .codeOf (opposite (dirAt k))))
+            (code-inside (gridOf rows cols codes) there within)
             ∙ ap (eqb (getD codes there 0)) (sym (ap (λ (m : Neighbour). m .back) is-n)));
       }
 
@@ -110,11 +113,6 @@ module _ {rows cols row col k : ℕ} {codes : List ℕ} {r : Beside} (p : LiesBe
   beside-in e = sym (value-beside true e)
 
 -- the record from its values
-getD-map : {A : Type 0} (f : A → ℕ) (l : List A) (i : ℕ) (a : A) → i < length l → getD (map f l) i 0 ≡ f (getD l i a)
-getD-map f [] i a h = absurd (omega arith)
-getD-map f (x ∷ xs) zero a h = refl
-getD-map f (x ∷ xs) (suc i) a h = getD-map f xs i a (omega arith)
-
 pub record-is : (g : Grid) (accumulation : List ℕ) (x : ℕ) (values : List ℕ) → length values ≡ 8
     → ((j : ℕ) → j < 8 → getD values j 0 ≡ valueAt g accumulation x j) → values ≡ inflowRecord g accumulation x
 unfolding inflowRecord

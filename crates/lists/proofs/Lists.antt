@@ -7,7 +7,7 @@ use mathlib.Core.List.{List, [], _∷_, _++_, map}
 use Prim.Native.Nat.{ℕ, zero, suc, _+_, _≤_, _<_}
 use native.Mathlib.Numerals.{add-one}
 use native.Mathlib.Omega.{arith}
-use lib.ListN.{length}
+use lib.ListN.{length, getD}
 use lib.Dec.{eqb}
 use borrow.Author.Tests.{eqb-true, eqb-false}
 use Rattle.lists.specs.Lists.{In, Every, Sorted, keepIf, only, allBelow}
@@ -58,6 +58,26 @@ pub in-right : {A : Type 0} (a : A) (xs ys : List A) → In a ys → In a (xs ++
 in-right a [] ys i = i
 in-right a (x ∷ xs) ys i = inr (in-right a xs ys i)
 
+pub in-map : {A B : Type 0} (f : A → B) (a : A) (xs : List A) → In a xs → In (f a) (map f xs)
+in-map f a [] i = absurd i
+in-map f a (x ∷ xs) (inl e) = inl (ap f e)
+in-map f a (x ∷ xs) (inr i) = inr (in-map f a xs i)
+
+-- an element of the images is the image of one
+pub record ImageOf {A B : Type 0} (f : A → B) (b : B) : Type 0 where
+  pub from : A
+  pub is : b ≡ f from
+
+pub map-in : {A B : Type 0} (f : A → B) (b : B) (xs : List A) → In b (map f xs) → ImageOf f b
+map-in f b [] i = absurd i
+map-in f b (x ∷ xs) (inl e) = record { from = x; is = e }
+map-in f b (x ∷ xs) (inr i) = map-in f b xs i
+
+pub getD-map : {A : Type 0} (f : A → ℕ) (l : List A) (i : ℕ) (a : A) → i < length l → getD (map f l) i 0 ≡ f (getD l i a)
+getD-map f [] i a h = absurd (omega arith)
+getD-map f (x ∷ xs) zero a h = refl
+getD-map f (x ∷ xs) (suc i) a h = getD-map f xs i a (omega arith)
+
 pub in-cases : {A C : Type 0} (a : A) (xs ys : List A) → (In a xs → C) → (In a ys → C) → In a (xs ++ ys) → C
 in-cases a [] ys f g i = g i
 in-cases a (x ∷ xs) ys f g (inl e) = f (inl e)
@@ -72,6 +92,16 @@ pub sorted-append : {A : Type 0} (R : A → A → Type 0) (xs ys : List A) → S
     → Every (λ x. Every (R x) ys) xs → Sorted R (xs ++ ys)
 sorted-append R [] ys h i k = i
 sorted-append R (x ∷ xs) ys h i k = (every-append (R x) xs ys (h .0) (k .0), sorted-append R xs ys (h .1) i (k .1))
+
+pub sorted-right : {A : Type 0} (R : A → A → Type 0) (xs ys : List A) → Sorted R (xs ++ ys) → Sorted R ys
+sorted-right R [] ys h = h
+sorted-right R (x ∷ xs) ys h = sorted-right R xs ys (h .1)
+
+pub sorted-across : {A : Type 0} (R : A → A → Type 0) (xs ys : List A) → Sorted R (xs ++ ys) → (a b : A) → In a xs
+    → In b ys → R a b
+sorted-across R [] ys h a b i j = absurd i
+sorted-across R (x ∷ xs) ys h a b (inl e) j = rw e (every-in (R x) b (xs ++ ys) (h .0) (in-right b xs ys j))
+sorted-across R (x ∷ xs) ys h a b (inr i) j = sorted-across R xs ys (h .1) a b i j
 
 pub every-only : {A : Type 0} (P : A → Type 0) (f : A → Bool) (xs : List A) → Every P xs → Every P (only f xs)
 every-only P f [] h = tt

@@ -1,7 +1,7 @@
 -- Laws of membership in a list of numbers, as it is looked for from a place on.
 -- Assumes nothing.
-use mathlib.Core.Path.{_≡_, refl, sym, ap, _∙_}
-use mathlib.Core.Bool.{Bool, true, false, true≢false, _||_, or-true, or-false, or-assoc}
+use mathlib.Core.Path.{_≡_, refl, sym, ap, _∙_, subst}
+use mathlib.Core.Bool.{Bool, true, false, true≢false, not, _||_, or-true, or-false, or-assoc}
 use mathlib.Core.Logic.{inl, inr}
 use mathlib.Core.List.{List, [], _∷_, _++_}
 use Prim.Native.Nat.{ℕ, zero, suc, _+_, _≤_, _<_}
@@ -11,7 +11,8 @@ use lib.ListN.{length, getD, take, drop, drop-of-length-le}
 use lib.Seq.{drop-cons, take-suc}
 use lib.Dec.{eqb}
 use borrow.Author.Tests.{eqb-true, eq-eqb, ne-eqb}
-use Rattle.lists.specs.Lists.{In, member}
+use Rattle.lists.specs.Lists.{In, Every, Sorted, member, different}
+use Rattle.lists.proofs.Lists.{and-both, every-is}
 
 -- an element of a list stands in it
 pub member-at : (xs : List ℕ) (i : ℕ) → i < length xs → member (getD xs i 0) xs ≡ true
@@ -23,6 +24,25 @@ pub in-member : (x : ℕ) (xs : List ℕ) → In x xs → member x xs ≡ true
 in-member x [] i = absurd i
 in-member x (y ∷ xs) (inl e) = rw (eq-eqb y x (sym e))
 in-member x (y ∷ xs) (inr i) = rw (in-member x xs i) (or-true (eqb y x))
+
+pub member-in : (x : ℕ) (xs : List ℕ) → member x xs ≡ true → In x xs
+member-in x [] e = absurd (true≢false (sym e))
+member-in x (y ∷ xs) e = go (eqb y x) refl (member-in x xs)
+  where
+    go : (b : Bool) → eqb y x ≡ b → (member x xs ≡ true → In x xs) → In x (y ∷ xs)
+    go true f ih = inl (sym (eqb-true y x f))
+    go false f ih = inr (ih (rw f at e))
+
+-- a list without the same number twice
+apart-member : (x : ℕ) (xs : List ℕ) → not (member x xs) ≡ true → Every (λ y. x ≡ y → ⊥) xs
+apart-member x xs h = every-is (λ y. x ≡ y → ⊥) xs
+    (λ y i e. true≢false (sym h ∙ ap not (in-member x xs (subst (λ z. In z xs) (sym e) i))))
+
+pub different-sorted : (xs : List ℕ) → different xs ≡ true → Sorted (λ x y. x ≡ y → ⊥) xs
+different-sorted [] h = tt
+different-sorted (x ∷ xs) h =
+    let p = and-both (not (member x xs)) (different xs) h in
+    (apart-member x xs (p .0), different-sorted xs (p .1))
 
 -- a number of a list stands at a position of it
 pub record Position (x : ℕ) (xs : List ℕ) : Type 0 where

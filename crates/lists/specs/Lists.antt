@@ -1,7 +1,7 @@
 -- Words on lists and numbers that the definitions use.
 -- Assumes nothing.
 use mathlib.Core.Path.{_≡_}
-use mathlib.Core.Bool.{Bool, true, false, cond, _&&_, _||_}
+use mathlib.Core.Bool.{Bool, true, false, cond, not, _&&_, _||_}
 use mathlib.Core.Logic.{_⊎_}
 use mathlib.Core.List.{List, [], _∷_, _++_}
 use Prim.Native.Nat.{ℕ, zero, suc, _+_}
@@ -16,6 +16,11 @@ In a (x ∷ xs) = (a ≡ x) ⊎ In a xs
 abbrev pub member : ℕ → List ℕ → Bool
 member c [] = false
 member c (x ∷ xs) = eqb x c || member c xs
+
+-- does no number stand in the list twice?
+abbrev pub different : List ℕ → Bool
+different [] = true
+different (x ∷ xs) = not (member x xs) && different xs
 
 -- every element is so
 abbrev pub Every : {A : Type 0} → (A → Type 0) → List A → Type 0

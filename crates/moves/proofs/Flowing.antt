@@ -13,7 +13,8 @@ use Rattle.moves.specs.declared.Lead.{Lead}
 use Rattle.moves.specs.declared.Lead.the-variants.{Nowhere}
 use Rattle.moves.specs.declared.Spot.{Spot}
 use Rattle.moves.specs.declared.Spot.the-variants.{Off, On}
-use Rattle.ground.specs.Compass.{dirOf, rowShift, colShift}
+use Rattle.ground.specs.Compass.{rowShift, colShift}
+use Rattle.ground.specs.Tables.{table1, dirOf}
 use Rattle.ground.specs.Grid.{Grid, gridOf, codeAt, flow, onto, next}
 use Rattle.ground.proofs.Cells.{code-inside, next-along, next-none}
 use Rattle.moves.specs.Lent.{OnCell}
@@ -29,8 +30,8 @@ module _ {rows cols row col : ℕ} {codes : List ℕ} (on : OnCell rows cols cod
   abbrev here : ℕ
   here = row * cols + col
 
-  flow-is : flow land here ≡ dirOf (getD codes here 0)
-  flow-is = ap dirOf (code-inside land here (inside on))
+  flow-is : flow land here ≡ dirOf table1 (getD codes here 0)
+  flow-is = ap (dirOf table1) (code-inside land here (inside on))
 
   ended : next land here ≡ none → FlowsTo land here Off
   ended e = record {

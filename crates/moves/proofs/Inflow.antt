@@ -9,7 +9,8 @@ use borrow.Author.Tests.{eq-eqb, ne-eqb}
 use Rattle.moves.specs.declared.Neighbour.{Neighbour}
 use Rattle.moves.specs.declared.Spot.{Spot}
 use Rattle.moves.specs.declared.Spot.the-variants.{Off, On}
-use Rattle.ground.specs.Compass.{codeOf, opposite}
+use Rattle.ground.specs.Compass.{opposite}
+use Rattle.ground.specs.Tables.{table1}
 use Rattle.ground.specs.Grid.{Grid, gridOf, codeAt}
 use Rattle.ground.proofs.Cells.{code-inside}
 use Rattle.moves.specs.Lent.{OnCell}
@@ -44,18 +45,18 @@ module _ {rows cols : ℕ} {codes : List ℕ} {row col : ℕ} (on : OnCell rows 
     code-is : codeAt land (x * cols + y) ≡ getD codes (x * cols + y) 0
     code-is = code-inside land (x * cols + y) (spot-inside p e)
 
-    back-is : n .back ≡ codeOf (opposite (dirAt k))
+    back-is : n .back ≡ table1 .codeOf (opposite (dirAt k))
     back-is = ap (λ (m : Neighbour). m .back) is-n
 
     pub inflow-away : (getD codes (x * cols + y) 0 ≡ n .back → ⊥) → FlowsFrom rows cols codes row col k Off
     inflow-away f = none-flows (at
-        ∙ rw (ne-eqb (codeAt land (x * cols + y)) (codeOf (opposite (dirAt k)))
+        ∙ rw (ne-eqb (codeAt land (x * cols + y)) (table1 .codeOf (opposite (dirAt k)))
         (λ q. f (sym code-is ∙ q ∙ sym back-is))))
 
     pub inflow-in : getD codes (x * cols + y) 0 ≡ n .back → FlowsFrom rows cols codes row col k (On x y)
     inflow-in f = record {
       is-cell = sym (at
-          ∙ rw (eq-eqb (codeAt land (x * cols + y)) (codeOf (opposite (dirAt k))) (code-is ∙ f ∙ back-is)));
+          ∙ rw (eq-eqb (codeAt land (x * cols + y)) (table1 .codeOf (opposite (dirAt k))) (code-is ∙ f ∙ back-is)));
       row-in = λ v w q. let t : x ≡ v = cc in rw (sym t) (p .row-in x y e);
       col-in = λ v w q. let t : y ≡ w = cc in rw (sym t) (p .col-in x y e);
     }

@@ -10,7 +10,8 @@ use Rattle.lengths.specs.Rule.{plusStep}
 use Rattle.moves.specs.declared.Spot.{Spot}
 use Rattle.moves.specs.declared.Spot.the-variants.{Off, On}
 use Rattle.moves.specs.declared.Walk.{Walk}
-use Rattle.ground.specs.Compass.{Dir, dirOf, stepOf}
+use Rattle.ground.specs.Compass.{Dir, stepOf}
+use Rattle.ground.specs.Tables.{table1, dirOf}
 use Rattle.ground.specs.Grid.{Grid, gridOf, codeAt, next}
 use Rattle.ground.specs.Walk.{At, stride}
 use Rattle.ground.proofs.Cells.{code-inside}
@@ -39,7 +40,7 @@ module _ {rows cols : ℕ} {codes : List ℕ} {w : Walk} (on : OnGrid rows cols 
   here = w .row * cols + w .col
 
   module _ {s : Spot} (p : FlowsTo (gridOf rows cols codes) (w .row * cols + w .col) s) where
-    pub walk-ends : s ≡ Off → WalkedOn rows cols codes w w
+    pub walk-ends : s ≡ Off → WalkedOn (gridOf rows cols codes) w w
     walk-ends e = record {
       is-state = sym (state-ends land (stateOf cols w) (p .ends-here e));
       row-in = on .on .row-in;
@@ -59,10 +60,10 @@ module _ {rows cols : ℕ} {codes : List ℕ} {w : Walk} (on : OnGrid rows cols 
       -- the step of the code is that of the walk
       step-is : stepBy (leadOf (getD codes here 0)) ≡ stepOf dir
       step-is = step-points (getD codes here 0) dir
-          (sym (ap dirOf code-is) ∙ s-flows .flows ∙ ap some (s-flows .is-step))
+          (sym (ap (dirOf table1) code-is) ∙ s-flows .flows ∙ ap some (s-flows .is-step))
 
       pub walk-goes : {longer : Length} → longer ≡ plusStep (w .length) (stepBy (leadOf (getD codes here 0)))
-          → WalkedOn rows cols codes w (record { row = row; col = col; length = longer })
+          → WalkedOn (gridOf rows cols codes) w (record { row = row; col = col; length = longer })
       walk-goes f = record {
         is-state = ap (λ (k : Length). record { cell = row * cols + col; len = k })
             (f ∙ ap (plusStep (w .length)) step-is)

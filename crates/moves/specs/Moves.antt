@@ -12,8 +12,8 @@ use Rattle.moves.specs.declared.Lead.the-variants.{Nowhere, By}
 use Rattle.moves.specs.declared.Spot.{Spot}
 use Rattle.moves.specs.declared.Spot.the-variants.{Off, On}
 use Rattle.moves.specs.declared.Neighbour.{Neighbour}
-use Rattle.ground.specs.Compass.{Dir, NE, dirs, codeOf, dirOf, opposite, stepOf}
-use Rattle.ground.specs.Compass.{Shift, less, as-is, more, rowShift, colShift, shifted}
+use Rattle.ground.specs.Compass.{Dir, NE, dirs, opposite, stepOf, Shift, less, as-is, more, rowShift, colShift, shifted}
+use Rattle.ground.specs.Tables.{table1, dirOf}
 use Rattle.ground.specs.Grid.{cellAt}
 use Rattle.moves.specs.Lent.{Sides}
 
@@ -38,7 +38,7 @@ leadBy (some d) = By (moveOf d)
 
 -- where a code byte leads
 unfoldable pub leadOf : ℕ → Lead
-leadOf code = leadBy (dirOf code)
+leadOf code = leadBy (dirOf table1 code)
 
 -- a code byte leads by a move
 abbrev pub LeadsBy : ℕ → Move → Type 0
@@ -79,4 +79,4 @@ nearBy row col back = record { row = row; col = col; back = back }
 
 -- the neighbour in a direction, with the code by which it flows in
 abbrev pub neighbourOf : Dir → Neighbour
-neighbourOf d = nearBy (shiftNumber (rowShift d)) (shiftNumber (colShift d)) (codeOf (opposite d))
+neighbourOf d = nearBy (shiftNumber (rowShift d)) (shiftNumber (colShift d)) (table1 .codeOf (opposite d))

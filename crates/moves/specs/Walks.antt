@@ -55,7 +55,7 @@ pub record OnGrid (rows cols : ℕ) (codes : List ℕ) (w : Walk) : Type 0 where
   pub diagonal-small : w .length .diagonal < 2 ^ 24
 
 -- the walk after one step, still on the grid
-pub record WalkedOn (rows cols : ℕ) (codes : List ℕ) (w r : Walk) : Type 0 where
-  pub is-state : stateOf cols r ≡ steppedOn (gridOf rows cols codes) (stateOf cols w)
-  pub row-in : r .row < rows
-  pub col-in : r .col < cols
+pub record WalkedOn (g : Grid) (w r : Walk) : Type 0 where
+  pub is-state : stateOf (g .cols) r ≡ steppedOn g (stateOf (g .cols) w)
+  pub row-in : r .row < g .rows
+  pub col-in : r .col < g .cols

@@ -145,7 +145,7 @@ impl Walk {
     // One step on. At its end the walk stays as it is.
     pub fn step(self, rows: usize, cols: usize, codes: &[u8]) -> Walk
         requires { ⌜ OnGrid rows cols (now codes) self ⌝ }
-        ensures { λ r. ⌜ WalkedOn rows cols (now (codes .entry)) self r ⌝ }
+        ensures { λ r. ⌜ WalkedOn (gridOf rows cols (now (codes .entry))) self r ⌝ }
     {
         let at = self.row * cols + self.col;
         match lead_of(codes[at]) {

@@ -9,7 +9,8 @@ use lib.ListN.{length, getD, take, drop, length-drop}
 use lib.Seq.{take-all, drop-drop, length-take-le}
 use borrow.Author.Tests.{eq-eqb, ne-eqb, lt-ltb, le-ltb}
 use Rattle.lists.specs.Lists.{allBelow}
-use Rattle.answers.specs.Checks.{Check, firstFailed, allPass, isCode}
+use Rattle.ground.specs.Tables.{table1, isCode}
+use Rattle.answers.specs.Checks.{Check, firstFailed, allPass}
 use Rattle.spelling.specs.Format.{mark, rowMark}
 use Rattle.spelling.specs.Reading.{numberAt, isRecord, isOutlet, isEnd, rowCodes, rowChecks, tailChecks}
 use Rattle.spelling.proofs.Records.{all-first, record-is}
@@ -39,13 +40,13 @@ part-length file cols at h =
 
 -- they are tested one by one
 pub part-codes : (file : List ℕ) (cols at : ℕ) → at + (4 + cols) ≤ length file
-    → allBelow (λ x. isCode (getD (take (at + 4 + cols - (at + 4)) (drop (at + 4) file)) x 0)) cols
-    ≡ allPass isCode (rowCodes cols (drop at file))
+    → allBelow (λ x. isCode table1 (getD (take (at + 4 + cols - (at + 4)) (drop (at + 4) file)) x 0)) cols
+    ≡ allPass (isCode table1) (rowCodes cols (drop at file))
 part-codes file cols at h =
     let here = rowCodes cols (drop at file) in
     let size : length here ≡ cols = rw (part-row file cols at) at (part-length file cols at h) in
     rw (part-row file cols at)
-    (all-first isCode here cols (omega arith) ∙ ap (allPass isCode) (take-all cols here (omega arith)))
+    (all-first (isCode table1) here cols (omega arith) ∙ ap (allPass (isCode table1)) (take-all cols here (omega arith)))
 
 -- ---- a row
 
@@ -63,11 +64,11 @@ module _ (file : List ℕ) (cols row at : ℕ) where
     other-row f later = refuses _ 3 (rw (whole, ne-eqb (numberAt 2 (drop at file)) row f))
 
     module _ (number : numberAt 2 (drop at file) ≡ row) where
-      pub other-code : allPass isCode (rowCodes cols (drop at file)) ≡ false → rowRefuses 5
+      pub other-code : allPass (isCode table1) (rowCodes cols (drop at file)) ≡ false → rowRefuses 5
       unfolding firstFailed
       other-code e later = refuses _ 4 (rw (whole, eq-eqb (numberAt 2 (drop at file)) row number, e))
 
-      pub row-passes : allPass isCode (rowCodes cols (drop at file)) ≡ true → at ≤ length file → (next : Cursor)
+      pub row-passes : allPass (isCode table1) (rowCodes cols (drop at file)) ≡ true → at ≤ length file → (next : Cursor)
           → next .at ≡ at + 4 + cols → Passes file (rowChecks cols row (drop at file)) (4 + cols) at next
       unfolding firstFailed
       row-passes e h next l = record {

@@ -1,9 +1,9 @@
 // Reading a sheet, byte for byte (01, Sheet and desk).
-use checks::all_codes;
 use lists::copy;
 use lists::index_of;
 use spelling::Sheet;
 use spelling::are_sheet_sides;
+use tables::all_ours;
 ghost use mathlib.Core.Path.{_≡_};
 ghost use Prim.Native.Nat.{_+_, _*_, _≤_, _<_};
 ghost use lib.ListN.{length, drop};
@@ -84,7 +84,7 @@ fn row_at(file: &[u8], here: Cursor, row: usize, cols: usize) -> Step
     }
     let start = here.at + 4;
     let end = start + cols;
-    if !all_codes(&file[start..end], cols) {
+    if !all_ours(&file[start..end], cols) {
         return Step::Refused { number: 5 };
     }
     Step::Next {

@@ -150,6 +150,7 @@ module _ {rows cols : ℕ} {codes outlets subaccumulations : List ℕ}
     code-is = code-inside g y inside
 
     step-is : plusStep len (t .step) ≡ plusStep len (stepOf (opposite (dirAt (t .k))))
+    unfolding leadOf
     step-is = ap (λ (u : Turn). plusStep len (u .step)) (next .is-turn h)
         ∙ ap (λ (m : ℕ). plusStep len (stepBy (leadOf m))) (sym code-is)
         ∙ own-step g outlets x (dirAt (t .k)) y found len

@@ -18,10 +18,11 @@ use Rattle.lists.proofs.Overlaid.{overlaid-length}
 use Rattle.ground.specs.Grid.{Grid, cellCount, ground}
 use Rattle.ground.specs.Accumulation.{agrees, accumulations}
 use Rattle.ground.proofs.Ground.{sub-at-most}
+use Rattle.ground.specs.Tables.{table1, isCode}
 use Rattle.search.specs.Tracing.{pathCount, numbersEach}
 use Rattle.search.proofs.Demand3.{demand3}
-use Rattle.answers.specs.Checks.{Check, allPass, isCode, check10, check11, check12, check13, check14}
-use Rattle.answers.specs.Checks.{check15, check16, check17, check18, check20, check21}
+use Rattle.answers.specs.Checks.{Check, allPass, check10, check11, check12, check13, check14, check15, check16, check17}
+use Rattle.answers.specs.Checks.{check18, check20, check21}
 use Rattle.answers.specs.Entries.{Catchment, gridChecks, accumulateNumber, accumulateLeaves}
 use Rattle.answers.specs.Tracings.{chosen, chosenCells, chosenTracing, stackNumber}
 use Rattle.answers.proofs.FirstFailed.{all-at, FailsOnly, fails-only}
@@ -31,8 +32,8 @@ use Rattle.spelling.specs.Reading.{readSheet, leftContent}
 use Rattle.spelling.proofs.Records.{all-first}
 use Rattle.spelling.proofs.Writable.{Spellable}
 use Rattle.spelling.proofs.RoundTrip.{left-spellable}
-use Rattle.report.specs.Desk.{firstNumber, startedLent, startedWork, callAt, numberAt, numbersFrom}
-use Rattle.report.specs.Desk.{tracingNumber, sheetGrid, sheetCatchment, sheetNumber}
+use Rattle.report.specs.Desk.{firstNumber, startedLent, startedWork, callAt, numberAt, numbersFrom, tracingNumber}
+use Rattle.report.specs.Desk.{sheetGrid, sheetCatchment, sheetNumber}
 use Rattle.report.proofs.Whole.{accepted-number}
 
 -- accepted, a ring, no outlet, an outlet on a null cell, an outlet twice
@@ -83,8 +84,8 @@ module _ (s : Content) (w : Spellable s) where
         every-map (λ n. 4096 ≤ n) (λ n. cellCount g ≤ n) (λ n k. omega (arith, k, few-cells)) lent h,
       )
 
-      codes : allBelow (λ x. isCode (getD (s .codes) x 0)) (cellCount g) ≡ true
-      codes = all-first isCode (s .codes) (cellCount g) (w .grid .has-codes) ∙ w .grid .are-codes
+      codes : allBelow (λ x. isCode table1 (getD (s .codes) x 0)) (cellCount g) ≡ true
+      codes = all-first (isCode table1) (s .codes) (cellCount g) (w .grid .has-codes) ∙ w .grid .are-codes
 
   -- so accumulating refuses a ring at most
   accumulate-among : In (accumulateNumber g (zeros 4096)) numbers

@@ -4,14 +4,14 @@ use mathlib.Core.Path.{_≡_, refl}
 use Rattle.lists.specs.Lists.{sumOf}
 use Rattle.lists.specs.Slices.{overlaid}
 use Rattle.lengths.specs.Rule.{compared, ruled, signOf, isShorter}
-use Rattle.ground.specs.Compass.{dirOf}
+use Rattle.ground.specs.Tables.{dirOf, isCode}
 use Rattle.ground.specs.Grid.{codeAt, neighbour, next, inflowRecord, inflows}
 use Rattle.ground.specs.Walk.{ringFree}
 use Rattle.ground.specs.Accumulation.{balance, agrees, subaccumulation}
 use Rattle.ground.specs.Forest.{forest}
 use Rattle.search.specs.Tracing.{tracingBy}
-use Rattle.answers.specs.Checks.{firstFailed, isCode, check10, check11, check12, check13, check14, check15, check16}
-use Rattle.answers.specs.Checks.{check17, check18, check20, check21}
+use Rattle.answers.specs.Checks.{firstFailed, check10, check11, check12, check13, check14, check15, check16, check17}
+use Rattle.answers.specs.Checks.{check18, check20, check21}
 use Rattle.answers.specs.Entries.{accumulateNumber, accumulateLeaves}
 use Rattle.answers.specs.Answers.{tracedWith}
 use Rattle.answers.specs.Tracings.{stackNumber, leavesSubaccumulation, leavesStarts}

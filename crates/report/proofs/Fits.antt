@@ -14,6 +14,7 @@ use borrow.Author.Tests.{eqb-true, eqb-false, ltb-true}
 use Rattle.lists.specs.Lists.{Every, sumOf}
 use Rattle.lists.specs.Slices.{zeros, overlaid}
 use Rattle.lists.proofs.Lists.{and-both, every-is, every-map}
+use Rattle.lists.proofs.Members.{different-sorted}
 use Rattle.lists.proofs.Overlaid.{overlaid-taken}
 use Rattle.ground.specs.Grid.{Grid, cellCount, ground}
 use Rattle.ground.specs.Accumulation.{subaccumulation}
@@ -23,7 +24,7 @@ use Rattle.answers.specs.Checks.{check10, check11, check12, check14, check15, c
 use Rattle.answers.specs.Entries.{Catchment, accumulateNumber}
 use Rattle.answers.specs.Answers.{tracedWith}
 use Rattle.answers.specs.Tracings.{chosen, chosenTracing, callChecks, stackNumber, leavesStarts}
-use Rattle.answers.proofs.FirstFailed.{all-every, all-at, different-sorted, passesOf, passed}
+use Rattle.answers.proofs.FirstFailed.{all-every, all-at, passesOf, passed}
 use Rattle.answers.proofs.Accepted.{Promise, stack-reached}
 use Rattle.lines.specs.declared.OutletLine.{OutletLine}
 use Rattle.lines.specs.Line.{catchmentLine, outletLine, pathLine, refusedLine}

@@ -6,7 +6,7 @@ use mathlib.Core.Bool.{false}
 use mathlib.Core.List.{List, [], _∷_, map}
 use Prim.Native.Nat.{ℕ}
 use Rattle.lengths.specs.Rule.{counts, compared, ruled, signOf, isShorter}
-use Rattle.ground.specs.Compass.{dirOf}
+use Rattle.ground.specs.Tables.{dirOf}
 use Rattle.ground.specs.Grid.{Grid, gridOf, codeAt, neighbour, next, inflows}
 use Rattle.ground.specs.Subwatershed.{walked, pathFrom}
 use Rattle.ground.specs.Forest.{forest}

@@ -12,13 +12,12 @@ use lib.Arith.{digits-lt, digits-div, digits-mod}
 use lib.Dec.{eqb, ltb, leb}
 use borrow.Author.Tests.{leb-true, ltb-true, eqb-true, lt-ltb}
 use Rattle.lists.proofs.Lists.{and-both}
-use Rattle.answers.specs.Checks.{firstFailed, allPass, isCode}
-use Rattle.spelling.specs.Format.{headerMark, rowMark, outletMark, endMark, marked, twoBytes}
-use Rattle.spelling.specs.Format.{rowRecord, outletRecord, endRecord, rowRecords, outletRecords}
-use Rattle.spelling.specs.Format.{spelling}
-use Rattle.spelling.specs.Reading.{numberAt, isRecord, isHeader, isRow, isOutlet, isEnd, rowCodes}
-use Rattle.spelling.specs.Reading.{codesFrom, outletCount, outletsFrom, areSheetSides}
-use Rattle.spelling.specs.Reading.{tailChecks, rowsChecks, readNumber}
+use Rattle.ground.specs.Tables.{table1, isCode}
+use Rattle.answers.specs.Checks.{firstFailed, allPass}
+use Rattle.spelling.specs.Format.{headerMark, rowMark, outletMark, endMark, marked, twoBytes, rowRecord}
+use Rattle.spelling.specs.Format.{outletRecord, endRecord, rowRecords, outletRecords, spelling}
+use Rattle.spelling.specs.Reading.{numberAt, isRecord, isHeader, isRow, isOutlet, isEnd, rowCodes, codesFrom}
+use Rattle.spelling.specs.Reading.{outletCount, outletsFrom, areSheetSides, tailChecks, rowsChecks, readNumber}
 use Rattle.spelling.specs.Reading.{fileRows, fileCols, fileTail, fileCodes, fileOutlets, fileContent}
 use Rattle.spelling.proofs.Records.{passes, all-append, number-bytes, record-is, sized}
 
@@ -26,10 +25,10 @@ use Rattle.spelling.proofs.Records.{passes, all-append, number-bytes, r
 
 pub record RowIs (cols row : ℕ) (rest : List ℕ) : Type 0 where
   pub fits : 4 + cols ≤ length rest
-  pub codes : allPass isCode (rowCodes cols rest) ≡ true
+  pub codes : allPass (isCode table1) (rowCodes cols rest) ≡ true
   pub spelled : row < 256 → rest ≡ rowRecord row (rowCodes cols rest) ++ drop (4 + cols) rest
 
-row-is : (cols row : ℕ) (rest : List ℕ) → isRow cols row rest ≡ true → allPass isCode (rowCodes cols rest) ≡ true
+row-is : (cols row : ℕ) (rest : List ℕ) → isRow cols row rest ≡ true → allPass (isCode table1) (rowCodes cols rest) ≡ true
     → RowIs cols row rest
 row-is cols row rest e k =
     let q = and-both (isRecord rowMark (4 + cols) rest) (eqb (numberAt 2 rest) row) e in
@@ -50,7 +49,7 @@ row-is cols row rest e k =
 pub record RowsAre (rows cols row n : ℕ) (rest : List ℕ) : Type 0 where
   pub fits : n * (4 + cols) ≤ length rest
   pub long : length (codesFrom cols n rest) ≡ n * cols
-  pub codes : allPass isCode (codesFrom cols n rest) ≡ true
+  pub codes : allPass (isCode table1) (codesFrom cols n rest) ≡ true
   pub spelled : rest ≡ rowRecords cols row n (codesFrom cols n rest) ++ drop (n * (4 + cols)) rest
   pub later : firstFailed (tailChecks rows cols 257 (drop (n * (4 + cols)) rest)) ≡ 0
 
@@ -66,7 +65,7 @@ rows-are rows cols row zero rest h e = record {
 }
 rows-are rows cols row (suc n) rest h e =
     let p = passes (isRow cols row rest) _ 3 e in
-    let q = passes (allPass isCode (rowCodes cols rest)) _ 4 (p .1) in
+    let q = passes (allPass (isCode table1) (rowCodes cols rest)) _ 4 (p .1) in
     let r = row-is cols row rest (p .0) (q .0) in
     let ih = rows-are rows cols (row + 1) n (drop (4 + cols) rest) (omega arith) (q .1) in
     let here = rowCodes cols rest in
@@ -78,7 +77,7 @@ rows-are rows cols row (suc n) rest h e =
     record {
       fits = omega (arith, ih .fits, r .fits, length-drop (4 + cols) rest, suc-mul n (4 + cols));
       long = length-append here below ∙ omega (arith, size, ih .long, suc-mul n cols);
-      codes = all-append isCode here below ∙ rw (r .codes, ih .codes);
+      codes = all-append (isCode table1) here below ∙ rw (r .codes, ih .codes);
       spelled =
           rw (
             take-at here below cols size,

@@ -5,13 +5,12 @@ use mathlib.Core.List.{List, _++_, map}
 use Prim.Native.Nat.{ℕ}
 use lib.ListN.{take, replicate}
 use lib.Dec.{lit<, lit≤}
-use Rattle.ground.specs.Compass.{dirOf}
-use Rattle.answers.specs.Checks.{firstFailed, isCode, check23}
+use Rattle.ground.specs.Tables.{dirOf, isCode}
+use Rattle.answers.specs.Checks.{firstFailed, check23}
 use Rattle.lists.specs.Slices.{overlaid}
 use Rattle.spelling.specs.Format.{headerRecord, outletRecord, endRecord, rowRecords, outletRecords, spelling}
-use Rattle.spelling.specs.Reading.{numberAt, isRecord, codesFrom, outletCount, outletsFrom}
-use Rattle.spelling.specs.Reading.{tailChecks, rowsChecks}
-use Rattle.spelling.specs.Reading.{readNumber, readAnswer, readLeavesCodes, readLeavesOutlets}
+use Rattle.spelling.specs.Reading.{numberAt, isRecord, codesFrom, outletCount, outletsFrom, tailChecks}
+use Rattle.spelling.specs.Reading.{rowsChecks, readNumber, readAnswer, readLeavesCodes, readLeavesOutlets}
 use Rattle.spelling.specs.Writing.{writeNumber, writeAnswer, writeLeaves}
 use Rattle.spelling.specs.Examples.{sampleCodes, worked, examples}
 use Rattle.spelling.proofs.Spelled.{SheetGrid, outlets-read, number-after-rows}

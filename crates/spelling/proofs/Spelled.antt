@@ -11,15 +11,14 @@ use lib.Seq.{take-at, drop-at, take-add, drop-drop, length-take-le}
 use lib.Dec.{ltb}
 use borrow.Author.Tests.{ltb-true, le-leb, lt-ltb, eq-eqb}
 use Rattle.lists.proofs.Lists.{and-both}
-use Rattle.answers.specs.Checks.{Check, firstFailed, allPass, isCode}
+use Rattle.ground.specs.Tables.{table1, isCode}
+use Rattle.answers.specs.Checks.{Check, firstFailed, allPass}
 use Rattle.spelling.specs.Content.{Content, lentContent}
-use Rattle.spelling.specs.Format.{headerMark, rowMark, outletMark, twoBytes}
-use Rattle.spelling.specs.Format.{headerRecord, rowRecord, outletRecord, endRecord, rowRecords, outletRecords}
-use Rattle.spelling.specs.Format.{spelling}
-use Rattle.spelling.specs.Reading.{numberAt, isRecord, isRow, rowCodes}
-use Rattle.spelling.specs.Reading.{codesFrom, outletCount, outletsFrom, outletChecks}
-use Rattle.spelling.specs.Reading.{tailChecks, rowsChecks, readNumber}
-use Rattle.spelling.specs.Reading.{fileRows, fileCols, fileTail, fileCodes, fileOutlets, fileContent}
+use Rattle.spelling.specs.Format.{headerMark, rowMark, outletMark, twoBytes, headerRecord, rowRecord}
+use Rattle.spelling.specs.Format.{outletRecord, endRecord, rowRecords, outletRecords, spelling}
+use Rattle.spelling.specs.Reading.{numberAt, isRecord, isRow, rowCodes, codesFrom, outletCount, outletsFrom}
+use Rattle.spelling.specs.Reading.{outletChecks, tailChecks, rowsChecks, readNumber, fileRows, fileCols, fileTail}
+use Rattle.spelling.specs.Reading.{fileCodes, fileOutlets, fileContent}
 use Rattle.spelling.proofs.Records.{all-append, is-side, of-bytes, is-record, no-end}
 
 -- ---- rows
@@ -47,7 +46,7 @@ pub record RowsRead (rows cols row n : ℕ) (codes more : List ℕ) : Type 0 whe
   pub after : drop (n * (4 + cols)) (rowRecords cols row n codes ++ more) ≡ more
 
 pub rows-read : (rows cols row n : ℕ) (codes more : List ℕ) → n * cols ≤ length codes
-    → allPass isCode (take (n * cols) codes) ≡ true → RowsRead rows cols row n codes more
+    → allPass (isCode table1) (take (n * cols) codes) ≡ true → RowsRead rows cols row n codes more
 unfolding rowsChecks codesFrom rowRecords firstFailed
 rows-read rows cols row zero codes more h a =
     record { number = refl; same = rw (zero-mul cols); after = rw (zero-mul (4 + cols)) }
@@ -57,8 +56,8 @@ rows-read rows cols row (suc n) codes more h a =
     let later = rowRecords cols (row + 1) n below ++ more in
     let m : suc n * cols ≡ cols + n * cols = omega (arith, suc-mul n cols) in
     let t : take (suc n * cols) codes ≡ here ++ take (n * cols) below = rw m (take-add cols (n * cols) codes) in
-    let b = and-both (allPass isCode here) (allPass isCode (take (n * cols) below))
-    (sym (ap (allPass isCode) t ∙ all-append isCode here (take (n * cols) below)) ∙ a) in
+    let b = and-both (allPass (isCode table1) here) (allPass (isCode table1) (take (n * cols) below))
+    (sym (ap (allPass (isCode table1)) t ∙ all-append (isCode table1) here (take (n * cols) below)) ∙ a) in
     let size : length here ≡ cols = length-take-le cols codes (omega arith) in
     let e = append-assoc here (rowRecords cols (row + 1) n below) more in
     let ih = rows-read rows cols (row + 1) n below more (omega (arith, length-drop cols codes)) (b .1) in
@@ -152,7 +151,7 @@ pub record SheetGrid (rows cols : ℕ) (codes : List ℕ) : Type 0 where
   pub some-cols : 1 ≤ cols
   pub cols-small : cols ≤ 64
   pub has-codes : rows * cols ≤ length codes
-  pub are-codes : allPass isCode (take (rows * cols) codes) ≡ true
+  pub are-codes : allPass (isCode table1) (take (rows * cols) codes) ≡ true
 
 -- header and rows of such a grid, and anything after them
 module _ (rows cols : ℕ) (codes more : List ℕ) where

@@ -7,7 +7,8 @@ use Prim.Native.Nat.{ℕ, _*_, _≤_}
 use lib.ListN.{length, take}
 use lib.Dec.{ltb, leb}
 use borrow.Author.Tests.{leb-true, le-leb}
-use Rattle.answers.specs.Checks.{Check, firstFailed, allPass, isCode, check23}
+use Rattle.ground.specs.Tables.{table1, isCode}
+use Rattle.answers.specs.Checks.{Check, firstFailed, allPass, check23}
 use Rattle.spelling.specs.Content.{Content}
 use Rattle.spelling.specs.Format.{spelling}
 use Rattle.spelling.specs.Reading.{areSheetSides}
@@ -28,7 +29,7 @@ module _ (c : Content) where
   spellable later e =
       let p = passes (areSheetSides (c .rows) (c .cols)) _ 1 e in
       let q = passes (leb (c .rows * c .cols) (length (c .codes))) _ 2 (p .1) in
-      let r = passes (allPass isCode (take (c .rows * c .cols) (c .codes))) _ 4 (q .1) in
+      let r = passes (allPass (isCode table1) (take (c .rows * c .cols) (c .codes))) _ 4 (q .1) in
       let s = passes (leb (length (c .outlets)) 256) _ 7 (r .1) in
       let t = passes (allPass (λ o. ltb o (c .rows * c .cols)) (c .outlets)) _ 6 (s .1) in
       let z = sized (c .rows) (c .cols) (p .0) in

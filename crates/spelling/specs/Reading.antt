@@ -6,7 +6,8 @@ use mathlib.Core.List.{List, [], _∷_, _++_}
 use Prim.Native.Nat.{ℕ, zero, suc, _+_, _*_}
 use lib.ListN.{length, getD, take, drop}
 use lib.Dec.{eqb, ltb, leb}
-use Rattle.answers.specs.Checks.{Check, check, firstFailed, allPass, isCode}
+use Rattle.ground.specs.Tables.{table1, isCode}
+use Rattle.answers.specs.Checks.{Check, check, firstFailed, allPass}
 use Rattle.lists.specs.Slices.{overlaid}
 use Rattle.spelling.specs.Content.{Content, content, lentContent}
 use Rattle.spelling.specs.Format.{Mark, headerMark, rowMark, outletMark, endMark}
@@ -91,7 +92,7 @@ check2 rows cols = check 2 (areSheetSides rows cols)
 
 -- a row: 4, is its record whole, with mark and row number right? 5, are its codes among the nine?
 abbrev pub rowChecks : ℕ → ℕ → List ℕ → List Check
-rowChecks cols row rest = check 4 (isRow cols row rest) ∷ check 5 (allPass isCode (rowCodes cols rest)) ∷ []
+rowChecks cols row rest = check 4 (isRow cols row rest) ∷ check 5 (allPass (isCode table1) (rowCodes cols rest)) ∷ []
 
 module _ (rows cols : ℕ) where
   -- a record after the rows that is no end: 6, is it a whole outlet record? 7, is the outlet inside the grid?

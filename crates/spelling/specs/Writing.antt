@@ -6,7 +6,8 @@ use mathlib.Core.List.{List, [], _∷_, _++_}
 use Prim.Native.Nat.{ℕ, _*_}
 use lib.ListN.{length, take}
 use lib.Dec.{eqb, ltb, leb}
-use Rattle.answers.specs.Checks.{Check, check, firstFailed, allPass, isCode, check23}
+use Rattle.ground.specs.Tables.{table1, isCode}
+use Rattle.answers.specs.Checks.{Check, check, firstFailed, allPass, check23}
 use Rattle.lists.specs.Slices.{overlaid}
 use Rattle.spelling.specs.Content.{Content}
 use Rattle.spelling.specs.Format.{spelling}
@@ -18,7 +19,7 @@ abbrev pub contentChecks : Content → List Check
 contentChecks c =
     check2 (c .rows) (c .cols)
     ∷ check 3 (leb (c .rows * c .cols) (length (c .codes)))
-    ∷ check 5 (allPass isCode (take (c .rows * c .cols) (c .codes)))
+    ∷ check 5 (allPass (isCode table1) (take (c .rows * c .cols) (c .codes)))
     ∷ check 8 (leb (length (c .outlets)) 256)
     ∷ check 7 (allPass (λ o. ltb o (c .rows * c .cols)) (c .outlets)) ∷ []
 

@@ -153,6 +153,7 @@ module _ {rows cols : ℕ} {codes outlets subaccumulations : List ℕ}
         pub turn-entered : b ≡ false → {own : Length} → own ≡ plusStep (w .below) (stepBy (leadOf (getD codes y 0)))
             → {r : Stack} {new : List ℕ} → Entered g outlets y own end (s .progress) (s .top - 1) old r new
             → length new ≡ length old → Turned g outlets dropping end s old r new
+        unfolding leadOf
         turn-entered e {own} is-own {r} {new} into same = record {
           standing = stands ready on-ground into (wait .1)
               (omega (arith, cells, standing .all-cells)) (standing .few-paths) (standing .small)

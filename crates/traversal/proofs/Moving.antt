@@ -11,8 +11,9 @@ use lib.Arith.{digits-lt}
 use lib.Dec.{ltb}
 use borrow.Author.Tests.{ltb-true}
 use Rattle.moves.specs.declared.Neighbour.{Neighbour}
-use Rattle.ground.specs.Compass.{Dir, E, SE, S, SW, W, NW, N, NE, placeOf, opposite, dirOf}
-use Rattle.ground.specs.Compass.{Shift, less, as-is, more, shifted, rowShift, colShift}
+use Rattle.ground.specs.Compass.{Dir, E, SE, S, SW, W, NW, N, NE, placeOf, opposite, Shift, less, as-is, more, shifted}
+use Rattle.ground.specs.Compass.{rowShift, colShift}
+use Rattle.ground.specs.Tables.{table1, dirOf}
 use Rattle.ground.specs.Grid.{Grid, gridOf, cellAt, neighbour, next}
 use Rattle.ground.proofs.Cells.{code-inside, neighbour-at}
 use Rattle.ground.proofs.GridNetwork.{Stepped, stepped}
@@ -169,16 +170,16 @@ back-place N = refl
 back-place NE = refl
 
 module _ {rows cols row col x : ℕ} {codes offsets : List ℕ} (n : Numbered rows cols codes offsets row col x) {k : ℕ}
-    (is-k : k ≡ placeBy (dirOf (getD codes x 0))) (has : HasNext (gridOf rows cols codes) x) where
+    (is-k : k ≡ placeBy (dirOf table1 (getD codes x 0))) (has : HasNext (gridOf rows cols codes) x) where
   s : Stepped (gridOf rows cols codes) x (has .0)
   s = stepped (gridOf rows cols codes) x (has .0) (has .1)
 
   place-is : k ≡ placeOf (has .0 .step)
-  place-is = is-k ∙ ap (λ (c : ℕ). placeBy (dirOf c)) (sym (code-inside (gridOf rows cols codes) x (at-inside n)))
+  place-is = is-k ∙ ap (λ (c : ℕ). placeBy (dirOf table1 c)) (sym (code-inside (gridOf rows cols codes) x (at-inside n)))
       ∙ ap placeBy (s .flows) ∙ ap placeOf (s .is-step)
 
   pub place-below : k < 8
-  place-below = omega (arith, is-k, place-in (dirOf (getD codes x 0)))
+  place-below = omega (arith, is-k, place-in (dirOf table1 (getD codes x 0)))
 
   dir-below : dirAt k ≡ s .dir
   dir-below = ap dirAt place-is ∙ at-place (has .0 .step) ∙ sym (s .is-step)

@@ -13,7 +13,8 @@ use borrow.Author.Tests.{eq-eqb, ne-eqb, lt-ltb, le-ltb}
 use Rattle.moves.specs.declared.Neighbour.{Neighbour}
 use Rattle.moves.specs.declared.Spot.{Spot}
 use Rattle.moves.specs.declared.Spot.the-variants.{Off, On}
-use Rattle.ground.specs.Compass.{codeOf, opposite}
+use Rattle.ground.specs.Compass.{opposite}
+use Rattle.ground.specs.Tables.{table1}
 use Rattle.ground.specs.Grid.{Grid, gridOf, neighbour}
 use Rattle.ground.proofs.Cells.{code-inside}
 use Rattle.moves.specs.Moves.{dirAt, neighbourOf, spotCell}
@@ -94,9 +95,9 @@ module _ {rows cols row col x : ℕ} {codes offsets : List ℕ} (n : Numbered ro
     unfolding inflowFrom
     by-code =
         let e : neighbour (gridOf rows cols codes) x (dirAt k) ≡ some y = inner-has .1 ∙ ap some (sym y-is) in
-        let f : codeOf (opposite (dirAt k)) ≡ m .back = ap (λ (a : Neighbour). a .back) (sym is-m) in
+        let f : table1 .codeOf (opposite (dirAt k)) ≡ m .back = ap (λ (a : Neighbour). a .back) (sym is-m) in
         ap (ifFlowsIn (gridOf rows cols codes) (dirAt k)) e
-        ∙ ap (λ (z : ℕ). cond (eqb z (codeOf (opposite (dirAt k)))) (some y) none)
+        ∙ ap (λ (z : ℕ). cond (eqb z (table1 .codeOf (opposite (dirAt k)))) (some y) none)
         (code-inside (gridOf rows cols codes) y inner-inside)
         ∙ ap (λ (z : ℕ). cond (eqb (getD codes y 0) z) (some y) none) f
 

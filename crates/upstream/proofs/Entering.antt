@@ -15,7 +15,7 @@ use Rattle.ground.specs.Compass.{Dir, SE, opposite, stepOf, squares}
 use Rattle.ground.specs.Grid.{Grid}
 use Rattle.ground.specs.Walk.{At}
 use Rattle.ground.proofs.Cells.{points-flow}
-use Rattle.moves.specs.Moves.{leadOf, leadBy, stepBy}
+use Rattle.moves.specs.Moves.{leadBy, stepBy}
 use Rattle.search.specs.Search.{firstRule, belowGreatest, drops}
 use Rattle.search.proofs.Neighbours.{Found}
 use Rattle.upstream.specs.Ready.{ownLength}
@@ -26,10 +26,9 @@ pub one-step : (l : Length) (s : Step)
 one-step l Straight = omega arith
 one-step l Diagonal = omega arith
 
--- the step of a neighbour's own code is the step down from where it lies
+-- the step of a neighbour's own direction is the step down from where it lies
 pub own-step : (g : Grid) (outlets : List ℕ) (x : ℕ) (d : Dir) (y : ℕ) → Found g outlets x d y → (len : Length)
     → ownLength g y len ≡ plusStep len (stepOf (opposite d))
-unfolding leadOf
 own-step g outlets x d y f len = ap (λ o. plusStep len (stepBy (leadBy o))) (points-flow g (opposite d) y (f .flows))
 
 -- the limit of 01's rule, as the code works it out

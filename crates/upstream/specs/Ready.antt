@@ -8,11 +8,11 @@ use lib.ListN.{length, getD}
 use Rattle.lengths.specs.declared.Length.{Length}
 use Rattle.lengths.specs.Rule.{plusStep}
 use Rattle.ground.specs.Compass.{squares}
-use Rattle.ground.specs.Grid.{Grid, gridOf, codeAt, ground}
+use Rattle.ground.specs.Grid.{Grid, gridOf, ground, flow}
 use Rattle.ground.specs.Accumulation.{agrees, subaccumulation}
 use Rattle.ground.specs.Forest.{forest}
 use Rattle.moves.specs.Lent.{LentGrid}
-use Rattle.moves.specs.Moves.{leadOf, stepBy}
+use Rattle.moves.specs.Moves.{leadBy, stepBy}
 use Rattle.search.specs.Search.{State, firstRule, searchFrom}
 use Rattle.progress.specs.declared.Progress.{Progress}
 use Rattle.progress.specs.Starts.{stateOf}
@@ -29,9 +29,9 @@ pub record Ready (rows cols : ℕ) (codes outlets subaccumulations : List ℕ) :
 abbrev pub cellsAt : ℕ → ℕ → List ℕ → List ℕ → ℕ → ℕ → ℕ
 cellsAt rows cols codes outlets row col = subaccumulation (gridOf rows cols codes) outlets (row * cols + col)
 
--- the length of a cell above one at this length, by its own code
+-- the length of a cell above one at this length, by its own direction
 abbrev pub ownLength : Grid → ℕ → Length → Length
-ownLength g y below = plusStep below (stepBy (leadOf (codeAt g y)))
+ownLength g y below = plusStep below (stepBy (leadBy (flow g y)))
 
 -- a cell of ground, by its row and column
 pub record OnGround (rows cols : ℕ) (codes : List ℕ) (row col : ℕ) : Type 0 where

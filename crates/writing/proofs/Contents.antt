@@ -10,7 +10,8 @@ use lib.ListN.{length, getD, take}
 use lib.Dec.{ltb}
 use borrow.Author.Tests.{ne-eqb, le-leb, lt-leb}
 use Rattle.lists.specs.Lists.{allBelow}
-use Rattle.answers.specs.Checks.{firstFailed, allPass, isCode, check23}
+use Rattle.ground.specs.Tables.{table1, isCode}
+use Rattle.answers.specs.Checks.{firstFailed, allPass, check23}
 use Rattle.answers.proofs.FirstFailed.{handed-on}
 use Rattle.spelling.specs.declared.Written.{Written}
 use Rattle.spelling.specs.Content.{Content}
@@ -23,11 +24,11 @@ use Rattle.spelling.proofs.Sizes.{spelling-length}
 
 -- are the codes that count among the nine, one by one?
 abbrev pub tested : Content → Bool
-tested c = allBelow (λ x. isCode (getD (c .codes) x 0)) (c .rows * c .cols)
+tested c = allBelow (λ x. isCode table1 (getD (c .codes) x 0)) (c .rows * c .cols)
 
 all-codes : (c : Content) → c .rows * c .cols ≤ length (c .codes) → (b : Bool) → tested c ≡ b
-    → allPass isCode (take (c .rows * c .cols) (c .codes)) ≡ b
-all-codes c h b e = sym (all-first isCode (c .codes) (c .rows * c .cols) h) ∙ e
+    → allPass (isCode table1) (take (c .rows * c .cols) (c .codes)) ≡ b
+all-codes c h b e = sym (all-first (isCode table1) (c .codes) (c .rows * c .cols) h) ∙ e
 
 -- the bytes of the file
 abbrev pub size : Content → ℕ

@@ -1,9 +1,9 @@
 // Writing a sheet, byte for byte (01, Sheet and desk).
-use checks::all_codes;
 use lists::copy;
 use lists::index_of;
 use spelling::Written;
 use spelling::are_sheet_sides;
+use tables::all_ours;
 ghost use mathlib.Core.Path.{_≡_};
 ghost use mathlib.Core.List.{List, [], _∷_, _++_};
 ghost use Prim.Native.Nat.{ℕ, _+_, _*_, _≤_, _<_};
@@ -46,7 +46,7 @@ fn content_number(rows: usize, cols: usize, codes: &[u8], outlets: &[u32]) -> u3
     if codes.len() < cells {
         return 3;
     }
-    if !all_codes(codes, cells) {
+    if !all_ours(codes, cells) {
         return 5;
     }
     if outlets.len() > 256 {

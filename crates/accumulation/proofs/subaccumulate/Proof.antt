@@ -27,7 +27,7 @@ fill-requires c κs =
     let a = c .before .before .before .before .before .before .before .before .args in
     passed-fillable (catchment (a .rows) (a .cols) (a .codes .now) (a .accumulation .now) (a .outlets .now))
     (a .subaccumulation .now)
-    (e .before .outlets-number .ensures) (e .if1 .left)
+    (e .before .outlets-number .ensures) (e .if1 .left) refl
 
 same-length : tie.Need-same-length
 same-length c = search needs

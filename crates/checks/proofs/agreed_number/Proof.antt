@@ -34,7 +34,7 @@ agrees-all-requires c κs =
     let s = c .before .before .before .before .before in
     let a = s .args in
     sized-lent (a .accumulation .now) (s .pre)
-    (sized (a .rows) (a .cols) (a .codes .now) (a .lent .now) _ 0 (inl (omega arith)) (before-passes c))
+    (sized (gridOf (a .rows) (a .cols) (a .codes .now)) (a .lent .now) _ 0 (inl (omega arith)) (before-passes c))
 
 returns-2 : tie.Need-returns-2
 returns-2 c =

@@ -4,8 +4,7 @@ use mathlib.Core.Path.{_≡_, refl, sym, ap, _∙_}
 use Prim.Native.Nat.{ℕ, _+_, _-_}
 use borrow.Author.Needs.{needs}
 use lib.ListN.{length, drop}
-use Rattle.lists.specs.Lists.{member}
-use Rattle.answers.specs.Checks.{different}
+use Rattle.lists.specs.Lists.{member, different}
 use Rattle.checks.proofs.Lists.{different-ends, different-breaks, different-goes-on}
 use Rattle.checks.proofs.all_different.Statement.{statement}
 use Rattle.checks.proofs.all_different.Tie as tie

@@ -56,7 +56,8 @@ returns-3 c =
 all-placed-requires : tie.Need-all-placed-requires
 all-placed-requires c κs =
     let a = start (c .before .before) .args in
-    sized (a .rows) (a .cols) (a .codes .now) (a .lent .now) _ 0 (inl (omega arith)) (before-passes (c .before .before))
+    sized (gridOf (a .rows) (a .cols) (a .codes .now)) (a .lent .now) _ 0 (inl (omega arith))
+    (before-passes (c .before .before))
     .grid
 
 returns-4 : tie.Need-returns-4

@@ -5,10 +5,10 @@ use Prim.Native.Nat.{_+_, _*_, _<_}
 use lib.ListN.{getD}
 use native.Mathlib.Omega.{arith}
 use borrow.Author.Needs.{needs}
-use Rattle.ground.specs.Compass.{dirOf}
+use Rattle.ground.specs.Tables.{table1, dirOf}
 use Rattle.downstream.proofs.Steps.{place-in}
-use Rattle.downstream.proofs.Flowing.{at-inside, led-in-reach, number-is, number-fits, to-inside}
-use Rattle.downstream.proofs.Flowing.{ends-nowhere, ends-off, ends-null, flows-there}
+use Rattle.downstream.proofs.Flowing.{at-inside, led-in-reach, number-is, number-fits, to-inside, ends-nowhere}
+use Rattle.downstream.proofs.Flowing.{ends-off, ends-null, flows-there}
 use Rattle.downstream.proofs.downstream_of.Statement.{statement}
 use Rattle.downstream.proofs.downstream_of.Tie as tie
 
@@ -51,7 +51,7 @@ place-below c = omega (
   arith,
   c .place-of .ensures,
   place-in
-      (dirOf (getD (start c .args .codes .now) (start c .args .at) 0)),
+      (dirOf table1 (getD (start c .args .codes .now) (start c .args .at) 0)),
 )
 
 number : (c : tie.After-place-of) → let a = start c .args in

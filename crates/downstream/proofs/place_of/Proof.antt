@@ -1,6 +1,6 @@
 -- `downstream::place_of` meets its contract: each arm is its direction's place, and what is left has the last.
 -- Assumes nothing.
-use Rattle.ground.specs.Compass.{dirOf}
+use Rattle.ground.specs.Tables.{dirOf}
 use Rattle.downstream.proofs.Steps.{last-place}
 use Rattle.downstream.proofs.place_of.Statement.{statement}
 use Rattle.downstream.proofs.place_of.Tie as tie

@@ -32,7 +32,7 @@ returns c =
 give-all-requires : tie.Need-give-all-requires
 give-all-requires c κs =
     let n = c .before .before .before .before .before in
-    climbable (called n) (lent n) (n .outlets-number .ensures) (c .before .before .before .before .if1 .left)
+    climbable (called n) (lent n) (n .outlets-number .ensures) (c .before .before .before .before .if1 .left) refl
 
 same-length : tie.Need-same-length
 same-length c = search needs

@@ -2,7 +2,7 @@
 -- Assumes nothing.
 use mathlib.Core.Path.{sym, ap, _∙_}
 use borrow.Author.Needs.{needs}
-use Rattle.ground.specs.Compass.{dirOf}
+use Rattle.ground.specs.Tables.{dirOf}
 use Rattle.moves.specs.Moves.{leadBy, leadOf}
 use Rattle.moves.proofs.Codes.{no-dir}
 use Rattle.moves.proofs.lead_of.Statement.{statement}

@@ -53,17 +53,17 @@ add-start c = search needs
 add-end : tie.Need-add-end
 add-end c = search needs
 
-sub-all-codes : tie.Need-sub-all-codes
-sub-all-codes c = search needs
+sub-all-ours : tie.Need-sub-all-ours
+sub-all-ours c = search needs
 
-part-all-codes-start : tie.Need-part-all-codes-start
-part-all-codes-start c = search needs
+part-all-ours-start : tie.Need-part-all-ours-start
+part-all-ours-start c = search needs
 
-part-all-codes-end : tie.Need-part-all-codes-end
-part-all-codes-end c = omega (arith, fits (c .before .before .before))
+part-all-ours-end : tie.Need-part-all-ours-end
+part-all-ours-end c = omega (arith, fits (c .before .before .before))
 
-all-codes-requires : tie.Need-all-codes-requires
-all-codes-requires c κs = search needs
+all-ours-requires : tie.Need-all-ours-requires
+all-ours-requires c κs = search needs
 
 returns-3 : tie.Need-returns-3
 returns-3 c =
@@ -71,7 +71,7 @@ returns-3 c =
     let e = c .before .before .before .before in
     other-code (a .file .now) (a .cols) (a .row) (a .here .at) (whole (e .before .before)) (numbered e)
     (sym (part-codes (a .file .now) (a .cols) (a .here .at) (fits (e .before .before)))
-    ∙ sym (c .before .all-codes .ensures) ∙ not-true (c .before .all-codes .result) (c .if3 .taken))
+    ∙ sym (c .before .all-ours .ensures) ∙ not-true (c .before .all-ours .result) (c .if3 .taken))
 
 returns-4 : tie.Need-returns-4
 returns-4 c =
@@ -79,7 +79,7 @@ returns-4 c =
     let e = c .before .before .before .before in
     row-passes (a .file .now) (a .cols) (a .row) (a .here .at) (whole (e .before .before)) (numbered e)
     (sym (part-codes (a .file .now) (a .cols) (a .here .at) (fits (e .before .before)))
-    ∙ sym (c .before .all-codes .ensures) ∙ not-false (c .before .all-codes .result) (c .if3 .left))
+    ∙ sym (c .before .all-ours .ensures) ∙ not-false (c .before .all-ours .result) (c .if3 .left))
     (c .before .before .before .before .before .before .before .before .before .pre .0) _ refl
 
 pub row-at-spec : {M : Type 1} → statement M
@@ -93,9 +93,9 @@ row-at-spec =
     returns-2
     add-start
     add-end
-    sub-all-codes
-    part-all-codes-start
-    part-all-codes-end
-    all-codes-requires
+    sub-all-ours
+    part-all-ours-start
+    part-all-ours-end
+    all-ours-requires
     returns-3
     returns-4)

@@ -56,19 +56,19 @@ fill-requires : tie.Need-fill-requires
 fill-requires c κs =
     let s = start (c .before) in
     fillable (judged s) (s .args .subaccumulation .now) (check18 (judged s .outlets) (s .args .place) ∷ [])
-    (passes (c .before))
+    (passes (c .before)) refl
 
 mul-index-of : tie.Need-mul-index-of
 mul-index-of c =
     let e = c .before .before .before .before in
     let s = start e in
-    omega (arith, few (judged s) (s .args .place) (s .args .subaccumulation .now) (passes e))
+    omega (arith, few (judged s) (s .args .place) (s .args .subaccumulation .now) refl (passes e))
 
 shared-slice-read-index-of : tie.Need-shared-slice-read-index-of
 shared-slice-read-index-of c =
     let e = c .before .before .before .before .before in
     let s = start e in
-    chosen (judged s) (s .args .place) (s .args .subaccumulation .now) (passes e) .in-list
+    chosen (judged s) (s .args .place) (s .args .subaccumulation .now) refl (passes e) .in-list
 
 index-of-requires : tie.Need-index-of-requires
 index-of-requires c κs = search needs
@@ -85,7 +85,7 @@ slice-read-t19 c =
     omega (
       arith,
       i .index-of .ensures .0,
-      in-grid (judged s) (s .args .place) (s .args .subaccumulation .now) (passes e) (filled f),
+      in-grid (judged s) (s .args .place) (s .args .subaccumulation .now) refl (passes e) (filled f),
     )
 
 same-length : tie.Need-same-length
@@ -102,7 +102,7 @@ returns-2 c =
       refused = λ z. absurd (z refl);
       filled = λ z. filled f;
       counted = λ z. ap (λ (x : ℕ). getD (f .fill .last .1 .1 .1 .1 .0) x 0) (i .index-of .ensures .0)
-          ∙ cells (judged s) (s .args .place) (s .args .subaccumulation .now) (passes e) (filled f);
+          ∙ cells (judged s) (s .args .place) (s .args .subaccumulation .now) refl (passes e) (filled f);
     }
 
 pub prepare-spec : {M : Type 1} → statement M

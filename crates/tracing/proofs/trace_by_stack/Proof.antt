@@ -1,5 +1,6 @@
 -- `tracing::trace_by_stack` meets its contract.
 -- Assumes nothing.
+use mathlib.Core.Path.{refl}
 use native.Mathlib.Omega.{arith}
 use borrow.Author.Needs.{needs}
 use Rattle.answers.specs.Tracings.{Call, callOf, Lent, lent}
@@ -62,9 +63,9 @@ by-stack-requires c κs =
     let e = i .before in
     let p = e .before .before .before in
     let r = p .prepare .ensures in (
-      prepared-ready {c = call p .catchment} r (e .if1 .left),
+      prepared-ready {c = call p .catchment} refl r (e .if1 .left),
       (
-        prepared-chosen {c = call p .catchment} r (e .if1 .left),
+        prepared-chosen {c = call p .catchment} refl r (e .if1 .left),
         omega (arith, l .if2 .left, i .index-of .ensures .0, p .prepare .ensures .counted (e .if1 .left)),
       ),
     )

@@ -20,7 +20,7 @@ sides : (c : tie.Else1) → let a = c .before .before .before .before .args in a
 sides c = sym (c .before .are-sheet-sides .ensures) ∙ not-false (c .before .are-sheet-sides .result) (c .if1 .left)
 
 codes : (c : tie.Else3) → tested (lent (c .before .before .before .before .before .before .before)) ≡ true
-codes c = sym (c .before .all-codes .ensures) ∙ not-false (c .before .all-codes .result) (c .if3 .left)
+codes c = sym (c .before .all-ours .ensures) ∙ not-false (c .before .all-ours .result) (c .if3 .left)
 
 are-sheet-sides-requires : tie.Need-are-sheet-sides-requires
 are-sheet-sides-requires c κs = search needs
@@ -40,15 +40,15 @@ returns-2 : tie.Need-returns-2
 returns-2 c =
     few-codes (lent (c .before .before .before .before .before)) (sides (c .before)) (c .if2 .taken)
 
-all-codes-requires : tie.Need-all-codes-requires
-all-codes-requires c κs = search needs
+all-ours-requires : tie.Need-all-ours-requires
+all-ours-requires c κs = search needs
 
 returns-3 : tie.Need-returns-3
 returns-3 c =
     let e = c .before .before in
     let s = e .before .before .before .before .before in
     other-code (lent s) (sides (e .before)) (omega (arith, e .if2 .left))
-    (sym (c .before .all-codes .ensures) ∙ not-true (c .before .all-codes .result) (c .if3 .taken))
+    (sym (c .before .all-ours .ensures) ∙ not-true (c .before .all-ours .result) (c .if3 .taken))
 
 returns-4 : tie.Need-returns-4
 returns-4 c =
@@ -84,7 +84,7 @@ content-number-spec =
     returns
     mul-cells
     returns-2
-    all-codes-requires
+    all-ours-requires
     returns-3
     returns-4
     are-cells-requires

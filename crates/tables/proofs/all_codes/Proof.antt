@@ -1,23 +1,22 @@
--- `checks::all_codes` meets its contract. The loop's invariant: `worst` is 0 if all before `at` are codes, else 1.
+-- `tables::all_codes` meets its contract. The loop's invariant: `worst` is 0 if all before `at` are codes, else 1.
 -- Assumes nothing.
 use mathlib.Core.Path.{_≡_, refl}
 use Prim.Native.Nat.{_-_, _≤_}
 use native.Mathlib.Omega.{arith}
 use borrow.Author.Needs.{needs}
 use lib.ListN.{getD}
-use Rattle.lists.specs.Lists.{allBelow}
-use Rattle.answers.specs.Checks.{isCode}
-use Rattle.checks.specs.Tests.{faultOf}
-use Rattle.checks.proofs.Codes.{worse, no-worse, faultless}
-use Rattle.checks.proofs.all_codes.Statement.{statement}
-use Rattle.checks.proofs.all_codes.Tie as tie
+use Rattle.lists.specs.Lists.{member, allBelow}
+use Rattle.tables.specs.Faults.{faultOf}
+use Rattle.tables.proofs.Faults.{worse, no-worse, faultless}
+use Rattle.tables.proofs.all_codes.Statement.{statement}
+use Rattle.tables.proofs.all_codes.Tie as tie
 
 abbrev Inv-loop : tie.InvT-loop
-Inv-loop codes n worst₀ at₀ worst at =
-    (at ≤ n) × (worst ≡ faultOf (allBelow (λ x. isCode (getD codes x 0)) at))
+Inv-loop table codes n worst₀ at₀ worst at =
+    (at ≤ n) × (worst ≡ faultOf (allBelow (λ x. member (getD codes x 0) table) at))
 
 abbrev μ-loop : tie.MeasureT-loop
-μ-loop codes n worst₀ at₀ worst at = n - at
+μ-loop table codes n worst₀ at₀ worst at = n - at
 
 loop-holds : tie.Need-loop-holds Inv-loop μ-loop
 loop-holds c = (search needs, refl)
@@ -36,9 +35,10 @@ loop-less c = search needs
 
 loop-again : tie.Need-loop-again Inv-loop μ-loop
 loop-again c =
-    let s = c .before .before .before .before in (
+    let s = c .before .before .before .before in
+    let a = s .before .before .args in (
       search needs,
-      worse (λ x. isCode (getD (s .before .before .args .codes .now) x 0)) (s .loop .at) (s .loop .inv .1)
+      worse (λ x. member (getD (a .codes .now) x 0) (a .table .now)) (s .loop .at) (s .loop .inv .1)
           (c .before .fault-of .ensures) (c .if1 .taken),
     )
 
@@ -47,9 +47,10 @@ loop-less-2 c = search needs
 
 loop-again-2 : tie.Need-loop-again-2 Inv-loop μ-loop
 loop-again-2 c =
-    let s = c .before .before .before .before in (
+    let s = c .before .before .before .before in
+    let a = s .before .before .args in (
       search needs,
-      no-worse (λ x. isCode (getD (s .before .before .args .codes .now) x 0)) (s .loop .at) (s .loop .inv .1)
+      no-worse (λ x. member (getD (a .codes .now) x 0) (a .table .now)) (s .loop .at) (s .loop .inv .1)
           (c .before .fault-of .ensures) (c .if1 .left),
     )
 
