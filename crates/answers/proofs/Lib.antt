@@ -1,4 +1,5 @@
 pub mod FirstFailed
 pub mod Accepted
+pub mod Converted
 pub mod Accumulated
 pub mod MarkedCases

@@ -5,16 +5,19 @@ use mathlib.Core.Bool.{Bool, true, false, true≢false}
 use mathlib.Core.Logic.{_⊎_, inl, inr}
 use mathlib.Core.List.{List, [], _∷_, map}
 use mathlib.Core.Option.{Option, none, some}
-use Prim.Native.Nat.{ℕ}
+use Prim.Native.Nat.{ℕ, _≤_, _<_}
 use native.Mathlib.Omega.{arith}
+use lib.ListN.{length, getD, take, length-map}
+use lib.Seq.{length-take-le, getD-take}
 use lib.Dec.{eqb}
 use borrow.Author.Tests.{eqb-true, eq-eqb, ne-eqb}
 use Rattle.lists.specs.Lists.{In, member}
-use Rattle.lists.proofs.Lists.{in-left, in-right, in-cases, in-map, map-in}
+use Rattle.lists.proofs.Lists.{in-left, in-right, in-cases, in-map, map-in, getD-map}
 use Rattle.lists.proofs.Members.{in-member, member-in}
 use Rattle.ground.specs.Compass.{Dir, E, SE, S, SW, W, NW, N, NE, dirs}
 use Rattle.ground.specs.Tables.{Table, undirected, codesOf, isCode, dirOf}
-use Rattle.ground.specs.Converting.{codeBy, recoded}
+use Rattle.ground.specs.Grid.{Grid, cellCount}
+use Rattle.ground.specs.Converting.{codeBy, recoded, convertedCodes}
 use Rattle.ground.proofs.Tables.{all-dirs, table-facts, undirected-none}
 
 -- a code of a table stands for no direction, or for one
@@ -107,3 +110,17 @@ recoded-same t code e = go (means t code e)
     go : Means t code → recoded t t code ≡ code
     go (no-direction i) = recoded-none t t code i
     go (direction d q) = rw (q, recoded-dir t t d)
+
+-- the codes of a grid in another table, place by place
+module _ (g : Grid) (to : Table) (h : cellCount g ≤ length (g .codes)) where
+  pub converted-length : length (convertedCodes g to) ≡ cellCount g
+  unfolding convertedCodes
+  converted-length = length-map (take (cellCount g) (g .codes)) (recoded (g .table) to)
+      ∙ length-take-le (cellCount g) (g .codes) h
+
+  pub converted-at : (x : ℕ) → x < cellCount g
+      → getD (convertedCodes g to) x 0 ≡ recoded (g .table) to (getD (g .codes) x 0)
+  unfolding convertedCodes
+  converted-at x i = getD-map (recoded (g .table) to) (take (cellCount g) (g .codes)) x 0
+      (omega (arith, length-take-le (cellCount g) (g .codes) h))
+      ∙ ap (recoded (g .table) to) (getD-take (cellCount g) (g .codes) x 0 i)

@@ -6,6 +6,7 @@ ghost use mathlib.Core.Path.{_≡_};
 ghost use Rattle.ground.specs.Grid.{gridOf};
 ghost use Rattle.answers.specs.Entries.{catchment, Accumulates, checkNumber, Subaccumulates};
 ghost use Rattle.answers.specs.FlowLengths.{lengthGrids, TellsFlowLengths};
+ghost use Rattle.answers.specs.Converting.{conversion, Converts};
 ghost use Rattle.answers.specs.Tracings.{callOf, lent};
 ghost use Rattle.answers.specs.Drawing.{drawingOf};
 ghost use Rattle.spelling.specs.Content.{content};
@@ -83,6 +84,21 @@ pub extern "C" fn jb_flow_lengths(
         up_straight,
         up_diagonal,
     )
+}
+
+#[no_mangle]
+pub extern "C" fn jb_convert(
+    from: u32,
+    to: u32,
+    rows: usize,
+    cols: usize,
+    codes: &[u8],
+    converted: &mut [u8],
+) -> u32
+    ensures { λ r. ⌜ Converts (conversion from to rows cols (now (codes .entry))) (now (converted .entry)) r
+        (now (converted .exit)) ⌝ }
+{
+    converting::convert(from, to, rows, cols, codes, converted)
 }
 
 // Stores straight, diagonal, paths, visited and dropped, and hands back the number.

@@ -122,13 +122,6 @@ record-is g accumulation x values e h = ext-getD 0 values (inflowRecord g accumu
     value : Dir → ℕ
     value d = inflowValue g accumulation d (neighbour g x d)
 
--- one value more is stored
-pub stored : (f : ℕ → ℕ) (l : List ℕ) (k v : ℕ) → k < length l → ((j : ℕ) → j < k → getD l j 0 ≡ f j) → v ≡ f k
-    → (j : ℕ) → j < k + 1 → getD (set l k v) j 0 ≡ f j
-stored f l k v inside below e =
-    below-more (λ (j : ℕ). getD (set l k v) j 0 ≡ f j) k
-    (λ j h. getD-set-other l k j v 0 (λ q. omega arith) ∙ below j h) (getD-set-same l k v 0 inside ∙ e)
-
 -- one value more is added
 sum-append : (xs ys : List ℕ) → sumOf (xs ++ ys) ≡ sumOf xs + sumOf ys
 unfolding sumOf

@@ -1,14 +1,12 @@
 -- Stores that keep what lies beyond the first places, and places that are cleared.
 -- Assumes nothing.
-use mathlib.Core.Path.{_≡_, refl, sym, _∙_, subst}
-use mathlib.Core.Bool.{Bool, true, false}
+use mathlib.Core.Path.{_≡_, refl, _∙_}
 use mathlib.Core.List.{List, [], _∷_}
 use Prim.Native.Nat.{ℕ, zero, suc, _+_, _≤_, _<_}
 use native.Mathlib.Omega.{arith}
 use lib.ListN.{length, getD, set, length-set}
 use lib.Seq.{getD-set-same, getD-set-other}
-use lib.Dec.{eqb}
-use borrow.Author.Tests.{eqb-true, eqb-false}
+use borrow.Author.Count.{below-more}
 use Rattle.lists.specs.Lists.{sumOf}
 use Rattle.lists.specs.Slices.{Kept, Cleared}
 
@@ -31,19 +29,18 @@ sum-set [] i v h = absurd (omega arith)
 sum-set (x ∷ xs) zero v h = omega arith
 sum-set (x ∷ xs) (suc i) v h = omega (arith, sum-set xs i v (omega arith))
 
+-- one number more is stored in front
+pub stored : (f : ℕ → ℕ) (l : List ℕ) (k v : ℕ) → k < length l → ((j : ℕ) → j < k → getD l j 0 ≡ f j) → v ≡ f k
+    → (j : ℕ) → j < k + 1 → getD (set l k v) j 0 ≡ f j
+stored f l k v inside below e =
+    below-more (λ (j : ℕ). getD (set l k v) j 0 ≡ f j) k
+    (λ j h. getD-set-other l k j v 0 (λ q. omega arith) ∙ below j h) (getD-set-same l k v 0 inside ∙ e)
+
 pub clear-begin : {n : ℕ} {l : List ℕ} → Cleared n 0 l l
 clear-begin = record { kept = kept-all; are-zero = λ x h. absurd (omega arith) }
 
 pub clear-step : {n i : ℕ} {l m : List ℕ} → i < n → n ≤ length l → Cleared n i l m → Cleared n (i + 1) l (set m i 0)
 clear-step {n} {i} {l} {m} h r c = record {
   kept = kept-then (c .kept) (kept-set i 0 h);
-  are-zero = λ x k. go x k (eqb x i) refl;
+  are-zero = stored (λ x. 0) m i 0 (omega (arith, c .kept .same-length)) (c .are-zero) refl;
 }
-  where
-    less : (x : ℕ) → x < i + 1 → (x ≡ i → ⊥) → x < i
-    less x k f = omega arith
-
-    go : (x : ℕ) → x < i + 1 → (b : Bool) → eqb x i ≡ b → getD (set m i 0) x 0 ≡ 0
-    go x k true e = subst (λ (y : ℕ). getD (set m i 0) y 0 ≡ 0) (sym (eqb-true x i e))
-        (getD-set-same m i 0 0 (omega (arith, c .kept .same-length)))
-    go x k false e = let f = eqb-false x i e in getD-set-other m i x 0 0 f ∙ c .are-zero x (less x k f)

@@ -103,6 +103,18 @@ sorted-across R [] ys h a b i j = absurd i
 sorted-across R (x ∷ xs) ys h a b (inl e) j = rw e (every-in (R x) b (xs ++ ys) (h .0) (in-right b xs ys j))
 sorted-across R (x ∷ xs) ys h a b (inr i) j = sorted-across R xs ys (h .1) a b i j
 
+pub every-at : (P : ℕ → Type 0) (xs : List ℕ) → Every P xs → (j : ℕ) → j < length xs → P (getD xs j 0)
+every-at P [] h j l = absurd (omega arith)
+every-at P (x ∷ xs) h zero l = h .0
+every-at P (x ∷ xs) h (suc j) l = every-at P xs (h .1) j (omega arith)
+
+pub sorted-at : (R : ℕ → ℕ → Type 0) (xs : List ℕ) → Sorted R xs → (i j : ℕ) → i < j → j < length xs
+    → R (getD xs i 0) (getD xs j 0)
+sorted-at R [] h i j k l = absurd (omega arith)
+sorted-at R (x ∷ xs) h i zero k l = absurd (omega arith)
+sorted-at R (x ∷ xs) h zero (suc j) k l = every-at (R x) xs (h .0) j (omega arith)
+sorted-at R (x ∷ xs) h (suc i) (suc j) k l = sorted-at R xs (h .1) i j (omega arith) (omega arith)
+
 pub every-only : {A : Type 0} (P : A → Type 0) (f : A → Bool) (xs : List A) → Every P xs → Every P (only f xs)
 every-only P f [] h = tt
 every-only P f (x ∷ xs) h = go (f x) (every-only P f xs (h .1))

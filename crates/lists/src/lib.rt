@@ -21,6 +21,13 @@ pub fn index_of(x: u32) -> usize
     x as usize
 }
 
+// A byte as an index, and that it is one of 256.
+pub fn byte_value(x: u8) -> usize
+    ensures { λ r. ⌜ (r ≡ x) × (r < 256) ⌝ }
+{
+    x as usize
+}
+
 // The lesser of two numbers.
 pub fn least(a: usize, b: usize) -> usize
     ensures { λ r. ⌜ (r ≤ a) × (r ≤ b) × ((r ≡ a) ⊎ (r ≡ b)) ⌝ }

@@ -1,4 +1,5 @@
 // Reading a sheet, byte for byte (01, Sheet and desk).
+use lists::byte_value;
 use lists::copy;
 use lists::index_of;
 use spelling::Sheet;
@@ -35,13 +36,6 @@ enum Found {
 enum Tail {
     Outlets { count: u32 },
     Refused { number: u32 },
-}
-
-// A byte as a number, and that it is below 256.
-fn byte_value(x: u8) -> usize
-    ensures { λ r. ⌜ (r ≡ x) × (r < 256) ⌝ }
-{
-    x as usize
 }
 
 impl Cursor {
