@@ -5,13 +5,14 @@
    a comment says otherwise, and places beyond those an answer needs keep their contents. A place for results (results,
    drawn, shape, size) is no such slice: it is written on every call, with values handed back.
 
-   10 rows or columns not 1 to 4,096       17 an outlet twice
-   11 a lent grid too short                18 the place is beyond the list of outlets
-   12 a code not among the nine            19 more than 4,096 cells, by recursion
-   13 a ring                               20 the working space too small
-   14 the accumulation does not agree      21 the list too short for the longest paths
-   15 no outlet, or more than 256          22 the start is not in the outlet's subwatershed
-   16 an outlet beyond the grid or null    23 the lent places too few
+   10 rows or columns not 1 to 4,096       18 the place is beyond the list of outlets
+   11 a lent grid too short                19 more than 4,096 cells, by recursion
+   12 a code not among the nine            20 the working space too small
+   13 a ring                               21 the list too short for the longest paths
+   14 the accumulation does not agree      22 the start is not in the outlet's subwatershed
+   15 no outlet, or more than 256          23 the lent places too few
+   16 an outlet beyond the grid or null    24 a table number not 1 to 3
+   17 an outlet twice
    1 to 9 are a sheet's: see jb_read_sheet. */
 #ifndef JINXBANYAN_H
 #define JINXBANYAN_H
@@ -44,6 +45,20 @@ uint32_t jb_flow_lengths(size_t rows, size_t cols, const uint8_t *codes, size_t 
                          size_t outlets_count, uint32_t *down_straight, size_t down_straight_count,
                          uint32_t *down_diagonal, size_t down_diagonal_count, uint32_t *up_straight,
                          size_t up_straight_count, uint32_t *up_diagonal, size_t up_diagonal_count);
+
+/* 24, 10, 11, 12. Writes the codes of a grid as codes of another table in the first rows x cols places of converted: each
+   cell keeps its direction, or stays null. from is the number of the table that codes are of, to that of the table that
+   converted gets; they may be the same. 24 tells that one of the two is not 1 to 3, 12 that a code is not in table from.
+   Every refusal leaves converted as it was. The two grids must not overlap, so none is converted in place.
+
+   table                                    E   SE    S   SW    W   NW    N   NE  null
+   1 ArcGIS: powers of two, clockwise       1    2    4    8   16   32   64  128     0
+   2 GRASS: counter-clockwise from NE       8    7    6    5    4    3    2    1     0
+   3 RichDEM and PFA: clockwise from W      5    6    7    8    1    2    3    4     0
+
+   Every other function takes and writes codes of table 1, and so are those of a sheet. */
+uint32_t jb_convert(uint32_t from, uint32_t to, size_t rows, size_t cols, const uint8_t *codes, size_t codes_count,
+                    uint8_t *converted, size_t converted_count);
 
 /* 10, 11, 12, 14 to 18, 20, 21. Traces all longest paths to the outlet at a place of the list, counted from 0. Dropping is
    0 or not. Writes the subaccumulation, and the starts in order. The working space takes three numbers for each of the

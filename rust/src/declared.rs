@@ -55,6 +55,17 @@ extern "C" {
         up_diagonal_count: usize,
     ) -> u32;
 
+    pub fn jb_convert(
+        from: u32,
+        to: u32,
+        rows: usize,
+        cols: usize,
+        codes: *const u8,
+        codes_count: usize,
+        converted: *mut u8,
+        converted_count: usize,
+    ) -> u32;
+
     pub fn jb_trace_by_stack(
         rows: usize,
         cols: usize,

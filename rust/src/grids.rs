@@ -1,4 +1,4 @@
-//! Accumulation, its check, subaccumulation, and flow lengths.
+//! Accumulation, its check, subaccumulation, flow lengths, and codes of other tables.
 
 use crate::declared;
 
@@ -102,6 +102,43 @@ pub fn flow_lengths(
             up_straight.len(),
             up_diagonal.as_mut_ptr(),
             up_diagonal.len(),
+        )
+    }
+}
+
+/// Checks 24, 10, 11, 12. Leaves the codes of a grid as codes of another table in the first
+/// rows × cols places of `converted`: each cell keeps its direction, or stays null. `from` is the
+/// number of the table that the codes are of, `to` that of the table that `converted` gets; they may
+/// be the same. 24 tells that one of the two is not 1 to 3, 12 that a code is not in table `from`.
+///
+/// | table | E | SE | S | SW | W | NW | N | NE | null |
+/// |---|---|---|---|---|---|---|---|---|---|
+/// | 1 ArcGIS | 1 | 2 | 4 | 8 | 16 | 32 | 64 | 128 | 0 |
+/// | 2 GRASS | 8 | 7 | 6 | 5 | 4 | 3 | 2 | 1 | 0 |
+/// | 3 RichDEM and PFA | 5 | 6 | 7 | 8 | 1 | 2 | 3 | 4 | 0 |
+///
+/// Every other function takes and leaves codes of table 1, and so are those of a sheet.
+#[inline]
+#[must_use]
+pub fn convert(
+    from: u32,
+    to: u32,
+    rows: usize,
+    cols: usize,
+    codes: &[u8],
+    converted: &mut [u8],
+) -> u32 {
+    // SAFETY: as the root says of every call.
+    unsafe {
+        declared::jb_convert(
+            from,
+            to,
+            rows,
+            cols,
+            codes.as_ptr(),
+            codes.len(),
+            converted.as_mut_ptr(),
+            converted.len(),
         )
     }
 }

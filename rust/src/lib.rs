@@ -22,6 +22,6 @@ mod sheets;
 mod tracing;
 
 pub use drawing::draw;
-pub use grids::{accumulate, check_accumulation, flow_lengths, subaccumulate};
+pub use grids::{accumulate, check_accumulation, convert, flow_lengths, subaccumulate};
 pub use sheets::{read_sheet, write_sheet};
 pub use tracing::{trace_by_recursion, trace_by_stack};

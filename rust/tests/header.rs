@@ -136,7 +136,7 @@ fn difference(header: &[Function], declared: &[Function]) -> Option<String> {
 fn header_and_declarations_are_alike() {
     let (header, declared) = (in_header(HEADER), in_rust(DECLARED));
     assert_eq!(difference(&header, &declared), None);
-    assert_eq!(header.len(), 9);
+    assert_eq!(header.len(), 10);
 }
 
 /// The difference that a change of the header makes.
@@ -180,6 +180,15 @@ fn each_change_of_an_argument_is_told() {
              declared is up_straight_count: usize",
         ),
         (
+            ("uint32_t from, uint32_t to", "uint32_t to, uint32_t from"),
+            "jb_convert, argument 1: the header has to: u32, declared is from: u32",
+        ),
+        (
+            ("uint8_t *converted", "const uint8_t *converted"),
+            "jb_convert, argument 7: the header has converted: *const u8, \
+             declared is converted: *mut u8",
+        ),
+        (
             ("size_t rows, size_t cols", "size_t cols, size_t rows"),
             "jb_accumulate, argument 1: the header has cols: usize, declared is rows: usize",
         ),
@@ -206,19 +215,19 @@ fn each_change_of_a_function_is_told() {
     let changes = [
         (
             (draw, String::new()),
-            "function 7: the header has jb_read_sheet: u32, declared is jb_draw: u32",
+            "function 8: the header has jb_read_sheet: u32, declared is jb_draw: u32",
         ),
         (
             (write, String::new()),
-            "function 9: the header has nothing, declared is jb_write_sheet: u32",
+            "function 10: the header has nothing, declared is jb_write_sheet: u32",
         ),
         (
             (write, format!("{write}\nuint32_t jb_more(size_t rows);")),
-            "function 10: the header has jb_more: u32, declared is nothing",
+            "function 11: the header has jb_more: u32, declared is nothing",
         ),
         (
             ("uint32_t jb_draw", "size_t jb_draw".to_string()),
-            "function 7: the header has jb_draw: usize, declared is jb_draw: u32",
+            "function 8: the header has jb_draw: usize, declared is jb_draw: u32",
         ),
         (
             ("jb_check_accumulation", "jb_check".to_string()),
