@@ -10,6 +10,7 @@ mod tracing;
 use crate::flow_lengths::FlowLengths;
 use crate::ground::{is_code, Ground};
 use crate::subwatershed::Division;
+use crate::tables::Table;
 use crate::{check, Refusal};
 
 pub use tracing::{trace_by_recursion, trace_by_stack, Kind, Tracing, MOST_BY_RECURSION};
@@ -45,19 +46,28 @@ impl<'a> Terrain<'a> {
     }
 }
 
-/// Checks 10, 11 and 12. Sides are judged before they are multiplied; a grid
-/// has R × C places if it has at least so many; only the first R × C codes
-/// count.
+/// Checks 10 and 11: the number of cells. Sides are judged before they are
+/// multiplied; a grid has R × C places if it has at least so many.
+fn checked_cells(
+    rows: usize,
+    cols: usize,
+    lent: impl IntoIterator<Item = usize>,
+) -> Result<usize, Refusal> {
+    let sides = 1..=MOST_SIDE;
+    check(10, sides.contains(&rows) && sides.contains(&cols))?;
+    let cells = rows * cols;
+    check(11, lent.into_iter().all(|places| places >= cells))?;
+    Ok(cells)
+}
+
+/// Checks 10, 11 and 12; only the first R × C codes count.
 fn checked_ground(
     rows: usize,
     cols: usize,
     codes: &[u8],
     lent: impl IntoIterator<Item = usize>,
 ) -> Result<Ground<'_>, Refusal> {
-    let sides = 1..=MOST_SIDE;
-    check(10, sides.contains(&rows) && sides.contains(&cols))?;
-    let cells = rows * cols;
-    check(11, lent.into_iter().all(|places| places >= cells))?;
+    let cells = checked_cells(rows, cols, lent)?;
     check(12, codes[..cells].iter().all(|&byte| is_code(byte)))?;
     Ok(Ground::new(rows, cols, codes))
 }
@@ -143,6 +153,28 @@ pub fn flow_lengths(
     for (grid, count) in grids.into_iter().zip(counts) {
         fill(grid, &lengths.iter().map(count).collect::<Vec<u32>>());
     }
+    Ok(())
+}
+
+/// Converting codes from one table to another (24, 10 to 12). 24 is judged of
+/// both numbers, 12 by the table that the codes come from.
+///
+/// Accepted, each of the first R × C places of the written grid holds the other
+/// table's code for the cell's direction, or 0 for null.
+pub fn convert(
+    from: u32,
+    to: u32,
+    rows: usize,
+    cols: usize,
+    codes: &[u8],
+    converted: &mut [u8],
+) -> Result<(), Refusal> {
+    let from = Table::numbered(from).ok_or(Refusal(24))?;
+    let to = Table::numbered(to).ok_or(Refusal(24))?;
+    let cells = checked_cells(rows, cols, [codes.len(), converted.len()])?;
+    let answer: Option<Vec<u8>> =
+        codes[..cells].iter().map(|&byte| from.converted(byte, &to)).collect();
+    fill(converted, &answer.ok_or(Refusal(12))?);
     Ok(())
 }
 

@@ -9,7 +9,9 @@
 //!   first if the longest is walked first;
 //! * exact comparison of lengths by integer square roots;
 //! * the order of starts by comparing whole routes read upward;
-//! * visited and dropped by plain recursion over an explicit tree.
+//! * visited and dropped by plain recursion over an explicit tree;
+//! * codes of other tables by the step that they mean, found by turning around
+//!   the cell.
 //!
 //! | module | what it tells |
 //! |---|---|
@@ -18,6 +20,7 @@
 //! | [`subwatershed`] | outlets, subaccumulation, longest starts, paths |
 //! | [`flow_lengths`] | each cell's lengths downstream and upstream |
 //! | [`search`] | visited and dropped |
+//! | [`tables`] | the three tables of codes, and a code of one in another |
 //! | [`entries`] | the grid entries, their checks and what they leave |
 //! | [`sheet`] | reading and writing the sheet file |
 //! | [`desk`] | the desk program's whole output |
@@ -33,6 +36,7 @@ pub mod random;
 pub mod search;
 pub mod sheet;
 pub mod subwatershed;
+pub mod tables;
 
 /// The number of a check that said "no". 0 stands for acceptance and is never
 /// held here.
