@@ -1,6 +1,7 @@
 //! One call, made to the host library and to the second reading, and every
 //! lent byte compared afterwards.
 
+mod converting;
 mod drawing;
 mod grids;
 mod sheets;
@@ -18,6 +19,7 @@ use crate::lent::{noise, Difference, Element, Lent};
 use crate::tally::{Entry, Tally};
 use slices::{Compared, Input, Output};
 
+pub use converting::Conversion;
 pub use tracing::{Ask, Engine, Rooms};
 
 /// The stack on which every entry must do its work.

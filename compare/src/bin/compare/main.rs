@@ -17,6 +17,7 @@ mod grounds;
 mod lent;
 mod sheet_files;
 mod sheet_trials;
+mod table_trials;
 mod tally;
 mod trap_trials;
 
@@ -65,7 +66,7 @@ fn compare_calls(follow: bool) -> ExitCode {
     let mut comparison = Comparison::new(SEED, follow);
     let mut random = Random::new(SEED);
     type Part = (&'static str, fn(&mut Comparison, &mut Random));
-    let parts: [Part; 10] = [
+    let parts: [Part; 11] = [
         ("traps", |comparison, _| trap_trials::run(comparison)),
         ("sheets", sheet_trials::run),
         ("every small grid", grid_trials::every_small_grid),
@@ -75,6 +76,7 @@ fn compare_calls(follow: bool) -> ExitCode {
         ("outlets' edges", grid_trials::outlet_edges),
         ("many grids", |comparison, random| grid_trials::many_grids(comparison, 2000, random)),
         ("larger grids", grid_trials::larger_grids),
+        ("tables of codes", table_trials::run),
         ("the largest grid", |comparison, _| edge_trials::largest_grid(comparison)),
     ];
     for (name, part) in parts {

@@ -1,6 +1,6 @@
 //! How many calls of each number each entry saw.
 
-const NUMBERS: usize = 24;
+const NUMBERS: usize = 25;
 
 /// The columns of the table.
 #[derive(Clone, Copy, Debug, PartialEq, Eq)]
@@ -9,6 +9,7 @@ pub enum Entry {
     CheckAccumulation,
     Subaccumulate,
     FlowLengths,
+    Convert,
     TraceByStack,
     TraceByStackDropping,
     TraceByRecursion,
@@ -18,11 +19,12 @@ pub enum Entry {
     WriteSheet,
 }
 
-const ENTRIES: [Entry; 11] = [
+const ENTRIES: [Entry; 12] = [
     Entry::Accumulate,
     Entry::CheckAccumulation,
     Entry::Subaccumulate,
     Entry::FlowLengths,
+    Entry::Convert,
     Entry::TraceByStack,
     Entry::TraceByStackDropping,
     Entry::TraceByRecursion,
@@ -39,6 +41,7 @@ impl Entry {
             Entry::CheckAccumulation => "check",
             Entry::Subaccumulate => "subacc",
             Entry::FlowLengths => "lengths",
+            Entry::Convert => "convert",
             Entry::TraceByStack => "stack",
             Entry::TraceByStackDropping => "stack-drop",
             Entry::TraceByRecursion => "recur",
@@ -55,6 +58,7 @@ impl Entry {
             Entry::Accumulate => &[0, 10, 11, 12, 13],
             Entry::CheckAccumulation => &[0, 10, 11, 12, 14],
             Entry::Subaccumulate | Entry::FlowLengths => &[0, 10, 11, 12, 14, 15, 16, 17],
+            Entry::Convert => &[0, 10, 11, 12, 24],
             Entry::TraceByStack | Entry::TraceByStackDropping => {
                 &[0, 10, 11, 12, 14, 15, 16, 17, 18, 20, 21]
             }

@@ -5,6 +5,7 @@ mod table;
 mod trap;
 
 use crate::calls::{Ask, Comparison, Engine, Rooms};
+use crate::table_trials::every_pair;
 use single_calls::{refusals, sheets, whole_flow_lengths, whole_subaccumulation};
 use table::TRAPS;
 use trap::Trap;
@@ -15,6 +16,7 @@ pub fn run(comparison: &mut Comparison) {
         tracing(comparison, trap);
         drawing(comparison, trap);
         flow_lengths(comparison, trap);
+        every_pair(comparison, &trap.grid(), &[]);
     }
     whole_subaccumulation(comparison);
     whole_flow_lengths(comparison);

@@ -7,6 +7,17 @@ use crate::tally::Entry;
 
 impl Comparison {
     pub fn accumulate(&mut self, rows: usize, cols: usize, codes: &[u8], room: usize) -> u32 {
+        self.accumulated(rows, cols, codes, room).0
+    }
+
+    /// The number, and the grid.
+    pub fn accumulated(
+        &mut self,
+        rows: usize,
+        cols: usize,
+        codes: &[u8],
+        room: usize,
+    ) -> (u32, Vec<u32>) {
         let codes = self.input("codes", codes);
         let mut grid = self.output("accumulation", room);
         let due = number(entries::accumulate(rows, cols, codes.contents, &mut grid.due));
@@ -15,7 +26,7 @@ impl Comparison {
         });
         let arguments = format_args!("rows {rows} cols {cols}");
         self.settle(Entry::Accumulate, arguments, &[&codes, &grid], due, found);
-        due
+        (due, grid.due)
     }
 
     pub fn check_accumulation(&mut self, terrain: Terrain) -> u32 {

@@ -2,6 +2,8 @@
 
 use second_reading::entries::Terrain;
 
+use crate::grounds::Grid;
+
 /// The answer for one outlet of a trap.
 pub struct Answer {
     /// Cells of the subwatershed; all are visited without dropping.
@@ -37,5 +39,10 @@ impl Trap {
     pub fn terrain(&self) -> Terrain<'static> {
         let Trap { rows, cols, codes, accumulation, .. } = *self;
         Terrain { rows, cols, codes, accumulation }
+    }
+
+    pub fn grid(&self) -> Grid {
+        let Trap { name, rows, cols, codes, .. } = *self;
+        Grid { kind: name, rows, cols, codes: codes.to_vec() }
     }
 }
