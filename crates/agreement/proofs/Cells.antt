@@ -7,7 +7,7 @@ use native.Mathlib.Numerals.{add-one}
 use lib.ListN.{getD}
 use lib.Dec.{eqb}
 use Rattle.lists.specs.Lists.{sumOf}
-use Rattle.ground.specs.Grid.{Grid, cellCount, ground, inflowRecord}
+use Rattle.ground.specs.Grid.{Grid, cellCount, inflowRecord}
 use Rattle.ground.proofs.Cells.{null-at, ground-at, ground-balance, null-balance}
 use Rattle.moves.proofs.Spots.{size, inside as cell-inside}
 use Rattle.inflows.specs.Values.{HasCell}

@@ -17,12 +17,12 @@ use Rattle.lists.proofs.Lists.{and-both, all-below, below-all}
 use Rattle.lists.proofs.Overlaid.{overlaid-length, overlaid-at}
 use Rattle.ground.specs.Compass.{Dir}
 use Rattle.ground.specs.Tables.{Table, tableOf, dirOf, isCode}
-use Rattle.ground.specs.Grid.{Grid, Link, gridIn, cellCount, codeAt, ground, neighbour, flow, onto, next}
+use Rattle.ground.specs.Grid.{Grid, gridIn, cellCount, codeAt, ground, neighbour, flow, onto, next}
 use Rattle.ground.specs.Converting.{recoded, convertedCodes}
 use Rattle.ground.proofs.Cells.{code-inside, code-outside, next-along, next-none}
 use Rattle.ground.proofs.Converting.{undirected-code, recoded-none, recoded-dir-of, recoded-null, recoded-code}
 use Rattle.ground.proofs.Converting.{recoded-on, recoded-same, converted-length, converted-at}
-use Rattle.answers.specs.Checks.{Check, allPass, check10, check11, check12, check24}
+use Rattle.answers.specs.Checks.{check10, check11, check12, check24}
 use Rattle.answers.specs.Entries.{gridChecks}
 use Rattle.answers.specs.Converting.{Conversion, source, target, convertNumber, convertLeaves, Converts}
 use Rattle.answers.specs.Converting.{Converted}

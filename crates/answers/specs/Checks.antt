@@ -4,7 +4,7 @@ use mathlib.Core.Bool.{Bool, true, cond, _&&_}
 use mathlib.Core.List.{List, [], _∷_}
 use Prim.Native.Nat.{ℕ, _*_}
 use lib.ListN.{length, getD}
-use lib.Dec.{eqb, ltb, leb}
+use lib.Dec.{ltb, leb}
 use Rattle.lists.specs.Lists.{different, allBelow}
 use Rattle.ground.specs.Tables.{isTable, isCode}
 use Rattle.ground.specs.Grid.{Grid, cellCount, ground}

@@ -5,7 +5,6 @@ use lists::is_among;
 use tables::all_codes;
 use tables::ours;
 ghost use mathlib.Core.Path.{_≡_};
-ghost use Prim.Native.Nat.{_≤_};
 ghost use lib.ListN.{length};
 ghost use lib.Dec.{leb};
 ghost use Rattle.lists.specs.Lists.{In, different};

@@ -14,7 +14,7 @@ use Rattle.lists.proofs.Counts.{also, also-same, also-or, also-out}
 use Rattle.lengths.specs.declared.Length.{Length}
 use Rattle.lengths.specs.Rule.{counts, plusStep, isShorter}
 use Rattle.ground.specs.Compass.{Dir, opposite, placeOf, stepOf}
-use Rattle.ground.specs.Grid.{Grid, cellCount, ground, neighbour, next}
+use Rattle.ground.specs.Grid.{Grid, cellCount, ground, next}
 use Rattle.ground.specs.Accumulation.{agrees}
 use Rattle.ground.specs.Subwatershed.{isOutlet}
 use Rattle.ground.specs.FlowLengths.{upstreamLength, arrival}

@@ -3,7 +3,6 @@ use checks::number_in;
 use lists::byte_value;
 use tables::codes_of;
 use tables::is_table;
-ghost use mathlib.Core.Path.{_≡_};
 ghost use Rattle.answers.specs.Converting.{conversion, Converts};
 ghost use Rattle.converting.specs.LookUp.{Pairs, LooksUp, Readable, Rewritten};
 

@@ -2,15 +2,14 @@
 -- Assumes nothing.
 use mathlib.Core.Path.{_≡_, refl, sym, ap, _∙_}
 use mathlib.Core.Bool.{Bool, true, false, cond}
-use mathlib.Core.List.{List, [], _∷_, _++_, map}
+use mathlib.Core.List.{List, [], _∷_, _++_}
 use mathlib.Core.Option.{Option, none, some}
-use Prim.Native.Nat.{ℕ, zero, suc, _+_, _-_, _*_, _<_}
+use Prim.Native.Nat.{ℕ, _+_, _-_, _*_, _<_}
 use native.Mathlib.Omega.{arith}
 use native.Mathlib.Numerals.{add-one}
-use lib.ListN.{length, getD, take, set}
-use lib.Seq.{take-suc, getD-set-same, getD-set-other, ext-getD}
+use lib.ListN.{length, getD, take}
+use lib.Seq.{take-suc, ext-getD}
 use lib.Dec.{eqb}
-use borrow.Author.Count.{below-more}
 use Rattle.lists.specs.Lists.{sumOf}
 use Rattle.lists.proofs.Lists.{getD-map}
 use Rattle.ground.specs.Compass.{Dir, NE, dirs, opposite}

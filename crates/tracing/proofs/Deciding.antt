@@ -24,7 +24,8 @@ use Rattle.answers.proofs.FirstFailed.{handed-on}
 use Rattle.answers.proofs.Accepted.{number-told}
 use Rattle.checks.proofs.Passed.{beyond-place, place-at-most}
 use Rattle.tracing.specs.declared.Prepared.{Prepared}
-use Rattle.tracing.specs.Answering.{refusedWith, Lists, ListsAndClears}
+use Rattle.listing.specs.Answering.{refusedWith}
+use Rattle.tracing.specs.Answering.{Lists, ListsAndClears}
 use Rattle.tracing.specs.Preparing.{Prepares}
 
 module _ (q : Call) (old : Lent) where

@@ -1,5 +1,3 @@
-pub mod Answering
 pub mod Filled
 pub mod Searching
-pub mod Listing
 pub mod Deciding

@@ -22,7 +22,8 @@ use Rattle.lists.specs.Slices.{overlaid}
 use Rattle.answers.specs.declared.Traced.{Traced}
 use Rattle.lists.proofs.Members.{member-at}
 use Rattle.lists.proofs.Overlaid.{overlaid-length}
-use Rattle.tracing.specs.Answering.{answerWith, cellsOf, Lists}
+use Rattle.listing.specs.Answering.{answerWith}
+use Rattle.tracing.specs.Answering.{cellsOf, Lists}
 use Rattle.tracing.specs.Preparing.{Chosen}
 
 -- starts of one length: their cells, and the length of the first

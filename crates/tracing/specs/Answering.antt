@@ -6,23 +6,14 @@ use mathlib.Core.List.{List}
 use Prim.Native.Nat.{ℕ, _*_}
 use lib.ListN.{length, getD}
 use lib.Dec.{leb}
-use Rattle.lengths.specs.declared.Length.{Length}
 use Rattle.lists.specs.Slices.{overlaid, zeros}
 use Rattle.ground.specs.Grid.{gridOf}
 use Rattle.ground.specs.Accumulation.{subaccumulation}
 use Rattle.search.specs.Tracing.{Tracing, pathCount, startCells, tracing, numbersEach}
-use Rattle.answers.specs.declared.Answer.the-variants.{Refused}
 use Rattle.answers.specs.declared.Traced.{Traced}
-use Rattle.answers.specs.Answers.{answered, tracedWith, tracedBy}
+use Rattle.answers.specs.Answers.{tracedBy}
 
--- before the search nothing is visited or dropped
-abbrev pub refusedWith : ℕ → Traced
-refusedWith number = answered 0 0 (Refused number)
-
--- the answer where the list has room for so many: 0, or 21
-abbrev pub answerWith : Length → ℕ → ℕ → ℕ → ℕ → Traced
-answerWith len paths visited dropped room = tracedWith (cond (leb paths room) 0 21) len paths visited dropped
-
+-- the answer of a search, where the list has room for so many starts: 0, or 21
 abbrev pub answerFor : Tracing → ℕ → Traced
 answerFor t room = tracedBy (cond (leb (pathCount t) room) 0 21) t
 

@@ -1,7 +1,6 @@
 -- `tables::all_ours` meets its contract: our table's codes are handed on.
 -- Assumes nothing.
 use mathlib.Core.Path.{_∙_}
-use native.Mathlib.Omega.{arith}
 use borrow.Author.Needs.{needs}
 use Rattle.ground.specs.Tables.{table1}
 use Rattle.tables.proofs.Faults.{all-in}

@@ -1,6 +1,6 @@
 -- `tables::codes_of` meets its contract, arm by arm.
 -- Assumes nothing.
-use mathlib.Core.Path.{sym, ap, _∙_}
+use mathlib.Core.Path.{_∙_}
 use borrow.Author.Needs.{needs}
 use borrow.Author.Tests.{ne-eqb}
 use Rattle.tables.proofs.codes_of.Statement.{statement}

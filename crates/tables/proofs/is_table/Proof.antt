@@ -1,7 +1,5 @@
 -- `tables::is_table` meets its contract.
 -- Assumes nothing.
-use mathlib.Core.Bool.{_&&_}
-use lib.Dec.{leb}
 use borrow.Author.Tests.{lt-leb, le-leb}
 use Rattle.tables.proofs.is_table.Statement.{statement}
 use Rattle.tables.proofs.is_table.Tie as tie

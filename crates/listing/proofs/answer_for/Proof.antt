@@ -1,11 +1,11 @@
--- `tracing::answer_for` meets its contract.
+-- `listing::answer_for` meets its contract.
 -- Assumes nothing.
 use mathlib.Core.Path.{_∙_}
 use native.Mathlib.Omega.{arith}
 use borrow.Author.Needs.{needs}
-use Rattle.tracing.proofs.Answering.{no-place, found}
-use Rattle.tracing.proofs.answer_for.Statement.{statement}
-use Rattle.tracing.proofs.answer_for.Tie as tie
+use Rattle.listing.proofs.Answering.{no-place, found}
+use Rattle.listing.proofs.answer_for.Statement.{statement}
+use Rattle.listing.proofs.answer_for.Tie as tie
 
 index-of-requires : tie.Need-index-of-requires
 index-of-requires c κs = search needs

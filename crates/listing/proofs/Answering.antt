@@ -6,7 +6,7 @@ use borrow.Author.Tests.{le-leb, lt-leb}
 use Rattle.progress.specs.declared.Progress.{Progress}
 use Rattle.answers.specs.declared.Answer.the-variants.{Found, NoPlace}
 use Rattle.answers.specs.Answers.{answered, tracedWith}
-use Rattle.tracing.specs.Answering.{answerWith}
+use Rattle.listing.specs.Answering.{answerWith}
 
 module _ (p : Progress) (room : ℕ) where
   pub no-place : room < p .paths

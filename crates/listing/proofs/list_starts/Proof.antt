@@ -1,4 +1,4 @@
--- `tracing::list_starts` meets its contract. The invariant: the first k places hold the first k starts.
+-- `listing::list_starts` meets its contract. The invariant: the first k places hold the first k starts.
 -- Assumes nothing.
 use mathlib.Core.Path.{_≡_, subst}
 use mathlib.Core.Logic.{_⊎_}
@@ -6,9 +6,9 @@ use Prim.Native.Nat.{ℕ, _-_, _≤_, _<_}
 use native.Mathlib.Omega.{arith}
 use borrow.Author.Needs.{needs}
 use lib.ListN.{length}
-use Rattle.tracing.proofs.Listing.{Listing, listing-none, listing-more, listed}
-use Rattle.tracing.proofs.list_starts.Statement.{statement}
-use Rattle.tracing.proofs.list_starts.Tie as tie
+use Rattle.listing.proofs.Listing.{Listing, listing-none, listing-more, listed}
+use Rattle.listing.proofs.list_starts.Statement.{statement}
+use Rattle.listing.proofs.list_starts.Tie as tie
 
 abbrev Inv-loop : tie.InvT-loop
 Inv-loop found end paths starts₀ n k₀ starts k = (k ≤ n) × Listing found end k starts₀ starts
