@@ -20,7 +20,7 @@ use Rattle.ground.specs.Tables.{Table, table1, dirOf, pointsIn}
 use Rattle.ground.specs.Grid.{Grid, cellAt, cellCount, codeAt, ground, neighbour, flow, onto, next, inflowRecord}
 use Rattle.ground.specs.Grid.{gridIn, gridOf, inflowsFrom, inflows}
 use Rattle.ground.specs.Accumulation.{gathered, balance, subaccumulation}
-use Rattle.ground.proofs.Tables.{table-facts, undirected-none}
+use Rattle.ground.proofs.Tables.{table-facts}
 
 -- THE ORDER: `dirs` is the order of `placeOf`, and both are E, SE, S, SW, W, NW, N, NE
 pub dirs-in-order : map placeOf dirs ≡ 0 ∷ 1 ∷ 2 ∷ 3 ∷ 4 ∷ 5 ∷ 6 ∷ 7 ∷ []
@@ -170,7 +170,7 @@ module _ (g : Grid) where
     where
       go : (b : Bool) → eqb (codeAt g y) 0 ≡ b → not b ≡ true
       go true h = let z : flow g y ≡ none = ap (dirOf (g .table)) (eqb-true (codeAt g y) 0 h)
-          ∙ undirected-none (g .table) 0 (inl refl) in cc
+          ∙ table-facts (g .table) .gives-none 0 (inl refl) in cc
       go false h = refl
 
   -- a code that points in a direction

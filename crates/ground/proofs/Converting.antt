@@ -17,7 +17,7 @@ use Rattle.ground.specs.Compass.{Dir, E, SE, S, SW, W, NW, N, NE, dirs}
 use Rattle.ground.specs.Tables.{Table, undirected, codesOf, isCode, dirOf}
 use Rattle.ground.specs.Grid.{Grid, cellCount}
 use Rattle.ground.specs.Converting.{codeBy, recoded, convertedCodes}
-use Rattle.ground.proofs.Tables.{all-dirs, table-facts, undirected-none}
+use Rattle.ground.proofs.Tables.{all-dirs, table-facts}
 
 -- a code of a table stands for no direction, or for one
 pub data Means (t : Table) (code : ℕ) : Type 0 where
@@ -43,7 +43,7 @@ module _ (from to : Table) where
   -- by cases
   pub recoded-none : (code : ℕ) → In code undirected → recoded from to code ≡ code
   unfolding recoded
-  recoded-none code i = ap (codeBy to code) (undirected-none from code i)
+  recoded-none code i = ap (codeBy to code) (table-facts from .gives-none code i)
 
   pub recoded-dir : (d : Dir) → recoded from to (from .codeOf d) ≡ to .codeOf d
   unfolding recoded
@@ -69,8 +69,8 @@ module _ (from to : Table) where
     recoded-dir-of = go (means from code e)
       where
         go : Means from code → dirOf to (recoded from to code) ≡ dirOf from code
-        go (no-direction i) = ap (dirOf to) (recoded-none code i) ∙ undirected-none to code i
-            ∙ sym (undirected-none from code i)
+        go (no-direction i) = ap (dirOf to) (recoded-none code i) ∙ table-facts to .gives-none code i
+            ∙ sym (table-facts from .gives-none code i)
         go (direction d q) = rw (q, recoded-dir d, table-facts to .found d, table-facts from .found d)
 
     -- and null

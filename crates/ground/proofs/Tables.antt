@@ -35,7 +35,9 @@ pub record TableFacts (t : Table) : Type 0 where
   pub different : (d e : Dir) → t .codeOf d ≡ t .codeOf e → d ≡ e
   -- no direction has a code of no direction, 0 among them
   pub directed : (d : Dir) → In (t .codeOf d) undirected → ⊥
-  -- what is no direction's code gives none
+  -- a code of no direction gives none
+  pub gives-none : (code : ℕ) → In code undirected → dirOf t code ≡ none
+  -- as does all that is no direction's code
   pub nowhere : (code : ℕ) → ((d : Dir) → code ≡ t .codeOf d → ⊥) → dirOf t code ≡ none
 
 module _ (t : Table) where
@@ -79,18 +81,16 @@ module _ (t : Table) where
   unfolding dirOf
   nowhere code f = find-none dirs code f
 
+  across : (code : ℕ) → In code undirected → (d : Dir) → code ≡ t .codeOf d → ⊥
+  across code i d = sorted-across (λ x y. x ≡ y → ⊥) undirected (map (t .codeOf) dirs) sorted code (t .codeOf d) i
+      (in-map (t .codeOf) d dirs (all-dirs d))
+
   pub table-facts : TableFacts t
   table-facts = record {
     found = found;
     only = only;
     different = λ d e h. let p : some d ≡ some e = sym (found d) ∙ ap (dirOf t) h ∙ found e in cc;
-    directed = λ d i. sorted-across (λ x y. x ≡ y → ⊥) undirected (map (t .codeOf) dirs) sorted (t .codeOf d)
-        (t .codeOf d) i (in-map (t .codeOf) d dirs (all-dirs d)) refl;
+    directed = λ d i. across (t .codeOf d) i d refl;
+    gives-none = λ code i. nowhere code (across code i);
     nowhere = nowhere;
   }
-
-  -- a code of no direction gives none
-  pub undirected-none : (code : ℕ) → In code undirected → dirOf t code ≡ none
-  undirected-none code i = nowhere code
-      (λ d e. sorted-across (λ x y. x ≡ y → ⊥) undirected (map (t .codeOf) dirs) sorted code (t .codeOf d) i
-      (in-map (t .codeOf) d dirs (all-dirs d)) e)
