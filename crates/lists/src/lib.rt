@@ -22,10 +22,10 @@ pub fn index_of(x: u32) -> usize
 }
 
 // A byte as an index, and that it is one of 256.
-pub fn byte_value(x: u8) -> usize
-    ensures { λ r. ⌜ (r ≡ x) × (r < 256) ⌝ }
+pub fn byte_value(byte: u8) -> usize
+    ensures { λ r. ⌜ (r ≡ byte) × (r < 256) ⌝ }
 {
-    x as usize
+    byte as usize
 }
 
 // The lesser of two numbers.
