@@ -149,6 +149,50 @@ uint32_t plain_equation(size_t rows, size_t cols, const uint8_t *codes, const ui
     return 0;
 }
 
+/* The codes of E, SE, S, SW, W, NW, N, NE in each table; null is 0. */
+static const uint8_t TABLES[3][8] = {
+    {1, 2, 4, 8, 16, 32, 64, 128},
+    {8, 7, 6, 5, 4, 3, 2, 1},
+    {5, 6, 7, 8, 1, 2, 3, 4},
+};
+
+/* what the look-up has for bytes that are no codes; itself a code of no table */
+enum { NO_CODE = 255 };
+
+static void look_up(uint32_t from, uint32_t to, uint8_t becomes[256]) {
+    memset(becomes, NO_CODE, 256);
+    becomes[0] = 0;
+    for (int k = 0; k < 8; k++) becomes[TABLES[from - 1][k]] = TABLES[to - 1][k];
+}
+
+static int all_become(const uint8_t becomes[256], size_t cells, const uint8_t *codes) {
+    for (size_t i = 0; i < cells; i++)
+        if (becomes[codes[i]] == NO_CODE) return 0;
+    return 1;
+}
+
+/* Not inlined: where gcc sees that the look-up and the grid do not overlap, it puts 16 bytes together for each write,
+   which takes longer than byte by byte. */
+__attribute__((noinline)) static void write_all(const uint8_t becomes[256], size_t cells, const uint8_t *codes,
+                                                uint8_t *converted) {
+    for (size_t i = 0; i < cells; i++) converted[i] = becomes[codes[i]];
+}
+
+void plain_convert(uint32_t from, uint32_t to, size_t rows, size_t cols, const uint8_t *codes, uint8_t *converted) {
+    uint8_t becomes[256];
+    look_up(from, to, becomes);
+    write_all(becomes, rows * cols, codes, converted);
+}
+
+uint32_t plain_convert_judged(uint32_t from, uint32_t to, size_t rows, size_t cols, const uint8_t *codes,
+                              uint8_t *converted) {
+    uint8_t becomes[256];
+    look_up(from, to, becomes);
+    if (!all_become(becomes, rows * cols, codes)) return 12;
+    write_all(becomes, rows * cols, codes, converted);
+    return 0;
+}
+
 uint32_t plain_subaccumulate(size_t rows, size_t cols, const uint8_t *codes, const uint32_t *accumulation,
                              const uint32_t *outlets, size_t count, uint32_t *subaccumulation, uint8_t *marks) {
     uint32_t number = plain_equation(rows, cols, codes, accumulation);

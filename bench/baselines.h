@@ -20,6 +20,13 @@ uint32_t plain_inflow_count(size_t rows, size_t cols, const uint8_t *codes, uint
 /* The equation at each cell; a mask tells which neighbours flow in. 0, 12 or 14. */
 uint32_t plain_equation(size_t rows, size_t cols, const uint8_t *codes, const uint32_t *accumulation);
 
+/* The codes of one table as codes of another, by a look-up of 256 bytes and without judging them. Tables are 1 to 3. */
+void plain_convert(uint32_t from, uint32_t to, size_t rows, size_t cols, const uint8_t *codes, uint8_t *converted);
+
+/* All codes are judged by the look-up, then written as by plain_convert. 0, or 12 with nothing written. */
+uint32_t plain_convert_judged(uint32_t from, uint32_t to, size_t rows, size_t cols, const uint8_t *codes,
+                              uint8_t *converted);
+
 /* The equation, then the inflow count, with outlets flowing nowhere. marks has a place for each cell. 0, 12 or 14. */
 uint32_t plain_subaccumulate(size_t rows, size_t cols, const uint8_t *codes, const uint32_t *accumulation,
                              const uint32_t *outlets, size_t count, uint32_t *subaccumulation, uint8_t *marks);

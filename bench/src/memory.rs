@@ -9,13 +9,20 @@ use crate::grounds::comb;
 use crate::measure::peak;
 use crate::plain;
 use crate::tables::table;
-use crate::trials::{accepted, LIST};
+use crate::trials::{accepted, FROM, LIST, TO};
 
 /// The side of the comb on which memory is measured.
 const SIDE: usize = 4096;
 
-const WORKS: [&str; 6] =
-    ["accumulate", "check 14", "subaccumulate", "flow lengths", "trace by stack", "draw"];
+const WORKS: [&str; 7] = [
+    "accumulate",
+    "check 14",
+    "convert",
+    "subaccumulate",
+    "flow lengths",
+    "trace by stack",
+    "draw",
+];
 
 /// What the Rust implementation does not do here: it would walk for minutes.
 const NOT_IN_RUST: [&str; 2] = ["flow lengths", "trace by stack"];
@@ -58,16 +65,36 @@ pub fn memory() -> Memory {
 
 /// The call of one process: prints the MiB lent and the peak.
 pub fn memory_of(who: &str, work: &str) {
-    let field = comb(SIDE);
-    let cells = field.cells();
+    let codes = &comb(SIDE).codes;
+    let lent = match work {
+        "convert" => converting(who, codes),
+        _ => accumulated(who, work, codes),
+    };
+    println!("{} {}", lent >> 20, peak() >> 20);
+}
+
+/// Converts, with no accumulation lent, and gives the bytes that are lent.
+fn converting(who: &str, codes: &[u8]) -> usize {
+    let mut converted = vec![1; codes.len()];
+    match who {
+        "library" => accepted(jinxbanyan::convert(FROM, TO, SIDE, SIDE, codes, &mut converted)),
+        "plain C" => plain::convert(FROM, TO, SIDE, SIDE, codes, &mut converted),
+        "Rust" => assert!(entries::convert(FROM, TO, SIDE, SIDE, codes, &mut converted).is_ok()),
+        _ => panic!("no such call"),
+    }
+    2 * codes.len()
+}
+
+/// Does other work, with an accumulation lent, and gives the bytes that are lent.
+fn accumulated(who: &str, work: &str, codes: &[u8]) -> usize {
+    let cells = codes.len();
     let grid = || vec![1u32; cells];
     let mut accumulation = grid();
     let mut lent = 5 * cells;
     if work != "accumulate" {
-        accepted(jinxbanyan::accumulate(SIDE, SIDE, &field.codes, &mut accumulation));
+        accepted(jinxbanyan::accumulate(SIDE, SIDE, codes, &mut accumulation));
     }
     let outlets = [(SIDE * (SIDE - 1) + SIDE / 2) as u32];
-    let codes = &field.codes[..];
     match (who, work) {
         ("library", "accumulate") => {
             accepted(jinxbanyan::accumulate(SIDE, SIDE, codes, &mut accumulation));
@@ -191,5 +218,5 @@ pub fn memory_of(who: &str, work: &str) {
             };
         }
     }
-    println!("{} {}", lent >> 20, peak() >> 20);
+    lent
 }

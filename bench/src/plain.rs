@@ -32,6 +32,24 @@ mod c {
             accumulation: *const u32,
         ) -> u32;
 
+        pub fn plain_convert(
+            from: u32,
+            to: u32,
+            rows: usize,
+            cols: usize,
+            codes: *const u8,
+            converted: *mut u8,
+        );
+
+        pub fn plain_convert_judged(
+            from: u32,
+            to: u32,
+            rows: usize,
+            cols: usize,
+            codes: *const u8,
+            converted: *mut u8,
+        ) -> u32;
+
         pub fn plain_subaccumulate(
             rows: usize,
             cols: usize,
@@ -83,7 +101,7 @@ mod c {
 use second_reading::entries::Terrain;
 
 // SAFETY of all calls below: every slice has a place for each cell, the working space three
-// numbers for each, and outlets and starts are cells.
+// numbers for each, outlets and starts are cells, and tables are 1 to 3.
 
 pub fn look_around(rows: usize, cols: usize, codes: &[u8], accumulation: &mut [u32]) -> u32 {
     assert!(codes.len() >= rows * cols && accumulation.len() >= rows * cols);
@@ -99,6 +117,31 @@ pub fn equation(terrain: Terrain) -> u32 {
     let Terrain { rows, cols, codes, accumulation } = terrain;
     assert!(codes.len() >= rows * cols && accumulation.len() >= rows * cols);
     unsafe { c::plain_equation(rows, cols, codes.as_ptr(), accumulation.as_ptr()) }
+}
+
+fn convertible(from: u32, to: u32, cells: usize, codes: &[u8], converted: &[u8]) -> bool {
+    let tables = 1..=3;
+    tables.contains(&from)
+        && tables.contains(&to)
+        && codes.len() >= cells
+        && converted.len() >= cells
+}
+
+pub fn convert(from: u32, to: u32, rows: usize, cols: usize, codes: &[u8], converted: &mut [u8]) {
+    assert!(convertible(from, to, rows * cols, codes, converted));
+    unsafe { c::plain_convert(from, to, rows, cols, codes.as_ptr(), converted.as_mut_ptr()) }
+}
+
+pub fn convert_judged(
+    from: u32,
+    to: u32,
+    rows: usize,
+    cols: usize,
+    codes: &[u8],
+    converted: &mut [u8],
+) -> u32 {
+    assert!(convertible(from, to, rows * cols, codes, converted));
+    unsafe { c::plain_convert_judged(from, to, rows, cols, codes.as_ptr(), converted.as_mut_ptr()) }
 }
 
 pub fn subaccumulate(

@@ -3,7 +3,7 @@
 use crate::grounds::serpent;
 use crate::measure::stack;
 use crate::tables::{grouped, table};
-use crate::trials::{accepted, largest, LIST, MOST_BY_RECURSION};
+use crate::trials::{accepted, largest, FROM, LIST, MOST_BY_RECURSION, TO};
 
 /// The stack that each call takes on a serpent, its outlet the lowest cell that has 4,096 at most.
 pub fn stacks() {
@@ -41,6 +41,10 @@ fn stacks_of(side: usize) -> Vec<(&'static str, usize)> {
     let check = stack(|| {
         accepted(jinxbanyan::check_accumulation(side, side, codes, accumulation));
     });
+    let mut converted = vec![1; cells];
+    let convert = stack(|| {
+        accepted(jinxbanyan::convert(FROM, TO, side, side, codes, &mut converted));
+    });
     let subaccumulate = stack(|| {
         let grid = &mut grid;
         accepted(jinxbanyan::subaccumulate(side, side, codes, accumulation, &outlets, grid));
@@ -68,6 +72,7 @@ fn stacks_of(side: usize) -> Vec<(&'static str, usize)> {
     let mut measured = vec![
         ("accumulate", accumulate),
         ("check 14", check),
+        ("convert", convert),
         ("subaccumulate", subaccumulate),
         ("flow lengths", flow_lengths),
         ("draw", draw),

@@ -13,13 +13,17 @@ use second_reading::random::Random;
 use crate::grounds::{Field, SEED};
 use crate::measure::Clock;
 use drawing::drawing;
-use grids::{accumulating, checking, measuring, subaccumulating};
+use grids::{accumulating, checking, converting, measuring, subaccumulating};
 use tracing::{recursion, tracing, Engine};
 
 pub use figures::Figure;
 pub use lent::{Sets, LIST};
 pub use rows::{Own, Row, ROWS};
 pub use tracing::MOST_BY_RECURSION;
+
+/// The tables of codes that are converted from and to.
+pub const FROM: u32 = 1;
+pub const TO: u32 = 2;
 
 /// The Rust implementation walks from every cell, to trace and for flow lengths, where its walks
 /// have no more steps than this, all together.
@@ -61,6 +65,7 @@ pub fn trial(field: &Field, runs: Runs, sets: &Sets, clock: &mut Clock) -> Vec<F
     };
     let outlet = largest(&accumulation, u32::MAX);
     let equation = checking(terrain, runs, clock, &mut figures);
+    figures.extend(converting(field, runs, sets, clock));
     let outlets = outlets(field, outlet, 256);
     let many = subaccumulating(terrain, &outlets, runs, sets, clock);
     let steps = steps_of(&sets.library.borrow().subaccumulation[..cells]);

@@ -1,10 +1,10 @@
-//! Accumulation, its check, subaccumulation, and flow lengths.
+//! Accumulation, its check, conversion, subaccumulation, and flow lengths.
 
 use second_reading::entries::{self, Terrain};
 
 use super::figures::{time, whole, Figure};
 use super::lent::{Lent, Sets};
-use super::{accepted, Runs};
+use super::{accepted, Runs, FROM, TO};
 use crate::grounds::Field;
 use crate::measure::{Clock, Contestant};
 use crate::plain;
@@ -50,6 +50,34 @@ pub fn checking(terrain: Terrain, runs: Runs, clock: &mut Clock, figures: &mut V
     ]);
     figures.push(whole(times[0], time(times[1]), times[2], terrain.codes.len()));
     time(times[1])
+}
+
+pub fn converting(field: &Field, runs: Runs, sets: &Sets, clock: &mut Clock) -> [Figure; 2] {
+    let Field { rows, cols, ref codes } = *field;
+    let cells = field.cells();
+    // A grid of its own, so that both answers of plain C are compared.
+    let mut judged = vec![1; cells];
+    let times = clock.race(vec![
+        Contestant::new(runs.quick, || {
+            let lent = &mut sets.library.borrow_mut();
+            accepted(jinxbanyan::convert(FROM, TO, rows, cols, codes, &mut lent.bytes));
+        }),
+        Contestant::new(runs.quick, || {
+            let lent = &mut sets.plain.borrow_mut();
+            plain::convert(FROM, TO, rows, cols, codes, &mut lent.bytes);
+        }),
+        Contestant::new(runs.quick, || {
+            accepted(plain::convert_judged(FROM, TO, rows, cols, codes, &mut judged));
+        }),
+        Contestant::new(runs.rust, || {
+            let lent = &mut sets.rust.borrow_mut();
+            let answer = entries::convert(FROM, TO, rows, cols, codes, &mut lent.bytes);
+            assert!(answer.is_ok());
+        }),
+    ]);
+    assert!(sets.all_alike(times[3], |lent| &lent.bytes[..cells]));
+    assert!(sets.library.borrow().bytes[..cells] == judged);
+    [whole(times[0], time(times[1]), times[3], cells), whole(times[0], time(times[2]), None, cells)]
 }
 
 pub fn subaccumulating(

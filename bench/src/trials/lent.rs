@@ -77,7 +77,11 @@ impl Sets {
     }
 
     /// Whether all hold the same there; the Rust implementation only if it ran.
-    pub fn all_alike(&self, rust: Option<Best>, part: impl Fn(&Lent) -> &[u32]) -> bool {
+    pub fn all_alike<T: PartialEq>(
+        &self,
+        rust: Option<Best>,
+        part: impl Fn(&Lent) -> &[T],
+    ) -> bool {
         let same = |other: &RefCell<Lent>| part(&self.library.borrow()) == part(&other.borrow());
         same(&self.plain) && (rust.is_none() || same(&self.rust))
     }

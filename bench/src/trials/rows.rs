@@ -36,10 +36,12 @@ const fn within(most: f64, work: &'static str, row: Row) -> Row {
     Row { own: Some(Own { work, most }), ..row }
 }
 
-pub const ROWS: [Row; 17] = [
+pub const ROWS: [Row; 19] = [
     aimed([1.4, 1.1, 1.4], row("accumulate", "inflow count", "cell")),
     row("accumulate", "look-around", "cell"),
     aimed([1.2, 1.5, 1.5], row("check 14", "equation", "cell")),
+    aimed([1.5, 1.5, 1.5], row("convert", "look-up", "cell")),
+    row("convert", "codes judged, look-up", "cell"),
     row("subaccumulate, 1 outlet", "equation, inflow count", "cell"),
     row("subaccumulate, 256 outlets", "equation, inflow count", "cell"),
     within(3.0, "accumulate", row("flow lengths, 1 outlet", "equation, traversal", "cell")),
