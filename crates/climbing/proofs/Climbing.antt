@@ -4,7 +4,7 @@ use mathlib.Core.Path.{_≡_, refl, sym, ap, ap₂, _∙_, subst}
 use mathlib.Core.Bool.{Bool, true, false, not, _||_, or-true, true≢false}
 use mathlib.Core.List.{List, [], _∷_}
 use mathlib.Core.Option.{Option, none, some}
-use Prim.Native.Nat.{ℕ, zero, suc, _+_, _*_, _/_, _%_, _≤_, _<_, _^_}
+use Prim.Native.Nat.{ℕ, zero, suc, _+_, _*_, _%_, _≤_, _<_, _^_}
 use native.Mathlib.Omega.{arith}
 use lib.ListN.{length, getD, take}
 use lib.Seq.{getD-set-same, getD-set-other}
@@ -15,6 +15,7 @@ use Rattle.lists.proofs.Lists.{and-both}
 use Rattle.lists.proofs.Counts.{also, also-same, also-or, also-in, many-more}
 use Rattle.lists.proofs.Kept.{kept-all, kept-set}
 use Rattle.lists.proofs.Members.{member-at, member-next, position-of}
+use Rattle.cells.specs.Numbers.{RowAndColumn}
 use Rattle.lengths.specs.declared.Step.{Step}
 use Rattle.lengths.specs.declared.Length.{Length}
 use Rattle.lengths.specs.Rule.{counts, plusStep, isShorter}
@@ -129,9 +130,10 @@ module _ {rows cols : ℕ} {codes outlets : List ℕ} {old : LengthGrids} (can :
       more : (c : ℕ) → member c (take (j + 1) outlets) ≡ (member c (take j outlets) || eqb o c)
       more c = member-next outlets j in-list c ∙ ap (λ (x : ℕ). member c (take j outlets) || eqb x c) (sym is-o)
 
-      pub standing-begin : Standing rows cols codes outlets steps j (o / cols) (o % cols) o 0 old old
-      standing-begin = record {
-        on = numbered (can .grid) (can .some-cols) o-inside are-steps;
+      pub standing-begin : {row col : ℕ} → RowAndColumn cols o row col
+          → Standing rows cols codes outlets steps j row col o 0 old old
+      standing-begin cell = record {
+        on = numbered (can .grid) cell o-inside are-steps;
         turn-small = omega arith;
         kept = kept-grids;
         climbing = record {

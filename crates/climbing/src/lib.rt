@@ -1,6 +1,7 @@
 // Through the subwatersheds of all outlets, each cell given its flow lengths: downstream from the cell below when it is
 // entered, upstream to the cell below when it is left. Marks at the outlets keep the traversal of one subwatershed out
 // of the next. ds and dd are the grids of straight and diagonal steps downstream, us and ud those upstream.
+use cells::split_number;
 use downstream::offsets;
 use lengthgrids::give_down;
 use lengthgrids::give_up;
@@ -44,11 +45,11 @@ fn climb(
         (lengthGrids (now (ds .entry)) (now (dd .entry)) (now (us .entry)) (now (ud .entry)))
         (lengthGrids (now (ds .exit)) (now (dd .exit)) (now (us .exit)) (now (ud .exit))) ⌝ }
 {
-    let o = index_of(outlets[place]);
+    let outlet = split_number(cols, outlets[place]);
     let mut p = Position {
-        row: o / cols,
-        col: o % cols,
-        at: o,
+        row: outlet.row,
+        col: outlet.col,
+        at: index_of(outlets[place]),
         turn: 0,
     };
     loop {

@@ -3,11 +3,12 @@
 use mathlib.Core.Path.{_≡_, refl, sym, ap, _∙_, subst}
 use mathlib.Core.List.{List}
 use mathlib.Core.Option.{some}
-use Prim.Native.Nat.{ℕ, _+_, _-_, _*_, _/_, _%_, _<_}
-use native.Mathlib.Nat.{div-add-mod', mod-lt, div-lt-iff-lt-mul}
+use Prim.Native.Nat.{ℕ, _+_, _-_, _*_, _<_}
 use native.Mathlib.Omega.{arith}
 use lib.ListN.{length, getD}
 use lib.Arith.{digits-lt}
+use Rattle.cells.specs.Numbers.{RowAndColumn}
+use Rattle.cells.proofs.Numbers.{row-inside}
 use Rattle.ground.specs.Tables.{table1, dirOf}
 use Rattle.downstream.specs.declared.Downstream.{Downstream}
 use Rattle.downstream.specs.declared.Downstream.the-variants.{End, To}
@@ -27,16 +28,13 @@ use Rattle.downstream.specs.Offsets.{placeBy, offsetOf, offsetsOf}
 use Rattle.downstream.specs.Flowing.{Numbered, FlowsOn}
 use Rattle.downstream.proofs.Steps.{offset-at, offset-small, number-after}
 
--- a cell's number split into row and column
-pub numbered : {rows cols at : ℕ} {codes offsets : List ℕ} → LentGrid rows cols codes → 0 < cols → at < rows * cols
-    → offsets ≡ offsetsOf cols → Numbered rows cols codes offsets (at / cols) (at % cols) at
-numbered {cols = cols} {at = at} grid some-cols h e = record {
-  on = record {
-    grid = grid;
-    row-in = div-lt-iff-lt-mul some-cols .1 h;
-    col-in = mod-lt at some-cols;
-  };
-  is-at = sym (div-add-mod' at cols);
+-- a cell by its number
+pub numbered : {rows cols at row col : ℕ} {codes offsets : List ℕ} → LentGrid rows cols codes
+    → RowAndColumn cols at row col → at < rows * cols → offsets ≡ offsetsOf cols
+    → Numbered rows cols codes offsets row col at
+numbered grid cell h e = record {
+  on = record { grid = grid; row-in = row-inside cell h; col-in = cell .col-in };
+  is-at = sym (cell .is-number);
   are-offsets = e;
 }
 

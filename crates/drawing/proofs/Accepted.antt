@@ -117,17 +117,17 @@ module _ (q : Drawing) (lent : List ℕ) where
           go true e = eqb-true (drawNumber q lent) 0 e
           go false e = absurd (some (judged .counts ∙ rw e))
 
-      module _ {from : ℕ} (is-start : from ≡ q .start) where
-        pub drawable : Drawable (q .catchment .grid) from (d .count) (length lent)
-        drawable = rw (is-start, judged .counts) (part-drawable accepts)
+      pub drawable : Drawable (q .catchment .grid) (q .start) (d .count) (length lent)
+      drawable = rw (judged .counts) (part-drawable accepts)
 
-        pub cells-written : {new : List ℕ} → new ≡ overlaid (firstCells (q .catchment .grid) from (d .count)) lent
-            → Draws q lent (d .number) (d .count) new
-        cells-written e = record {
-          answers = judged .answers;
-          counts = judged .counts;
-          leaves = e ∙ rw (is-start, judged .counts) (part-leaves accepts);
-        }
+      pub cells-written : {new : List ℕ}
+          → new ≡ overlaid (firstCells (q .catchment .grid) (q .start) (d .count)) lent
+          → Draws q lent (d .number) (d .count) new
+      cells-written e = record {
+        answers = judged .answers;
+        counts = judged .counts;
+        leaves = e ∙ rw (judged .counts) (part-leaves accepts);
+      }
 
   -- THE PART that is handed back
   module _ {number count : ℕ} {new : List ℕ} (draws : Draws q lent number count new) where

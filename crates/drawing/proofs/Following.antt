@@ -1,7 +1,7 @@
 -- The walk while it is followed to its first outlet: what lies before it is what the whole walk has, less the cells
 -- passed.
 -- Assumes nothing.
-use mathlib.Core.Path.{_≡_, refl, sym, ap, ap₂, _∙_, subst}
+use mathlib.Core.Path.{_≡_, refl, sym, ap, _∙_, subst}
 use mathlib.Core.Bool.{Bool, true, false, true≢false}
 use mathlib.Core.List.{List}
 use mathlib.Core.Option.{Option, none, some}
@@ -13,12 +13,12 @@ use borrow.Author.Tests.{eq-eqb, ne-eqb, lt-ltb}
 use Rattle.lists.specs.Lists.{member}
 use Rattle.lists.proofs.Lists.{and-both}
 use Rattle.lists.proofs.Members.{position-of}
+use Rattle.cells.proofs.Numbers.{row-inside}
 use Rattle.ground.specs.Compass.{Dir, squares}
 use Rattle.ground.specs.Grid.{Grid, Link, cellCount, ground, next, inflows}
 use Rattle.ground.specs.Subwatershed.{walked, belongs, isOutlet, inSubwatershed, pathFrom}
 use Rattle.ground.proofs.Agreement.{Agrees, fewer-next}
 use Rattle.ground.proofs.Walks.{walked-out, walked-next}
-use Rattle.ground.proofs.Cells.{in-rows}
 use Rattle.ground.proofs.Ground.{𝓝, lent, at-most-cells}
 use Rattle.moves.specs.declared.Walk.{Walk}
 use Rattle.moves.specs.Walks.{OnGrid, WalkedOn}
@@ -73,10 +73,9 @@ module _ {c : Catchment} (s : Surveyed c) where
   begun o start {w} solid b =
       let z : steps w ≡ 0 = rw (b .no-steps) in
       record {
-        is-cell = b .is-cell;
-        row-in = in-rows (w .row) (w .col) (c .grid .rows) (c .grid .cols)
-            (omega (arith, b .is-cell, 𝓝 (c .grid) .bounded start solid));
-        col-in = b .col-in;
+        is-cell = b .cell .is-number;
+        row-in = row-inside (b .cell) (𝓝 (c .grid) .bounded start solid);
+        col-in = b .cell .col-in;
         solid = solid;
         grown = omega (arith, z, positive start solid);
         none-between = record { below = λ j i h. absurd (omega (arith, h)) };
@@ -121,11 +120,6 @@ module _ {c : Catchment} (s : Surveyed c) where
           = rw (lt-ltb start (cellCount (c .grid)) (𝓝 (c .grid) .bounded start v), v) in
           absurd (true≢false (sym placed ∙ z))
       null false v = refl
-
--- the same numbers measure the same
-pub measured : (g : Grid) (outlets : List ℕ) {r o p c d : ℕ} → r ≡ pathLength g outlets o c → o ≡ p → c ≡ d
-    → r ≡ pathLength g outlets p d
-measured g outlets e f h = e ∙ ap₂ (pathLength g outlets) f h
 
 pub placed-solid : (g : Grid) (start : ℕ) → isPlaced g start ≡ true → ground g start ≡ true
 placed-solid g start e = and-both (ltb start (cellCount g)) (ground g start) e .1

@@ -11,8 +11,8 @@ use lib.Seq.{ext-getD, drop-cons, set-at, append-snoc}
 use Rattle.lists.specs.Lists.{upTo}
 use Rattle.lists.specs.Slices.{overlaid}
 use Rattle.lists.proofs.Overlaid.{overlaid-front}
+use Rattle.cells.proofs.Numbers.{row-inside}
 use Rattle.ground.specs.Grid.{Grid, next}
-use Rattle.ground.proofs.Cells.{in-rows}
 use Rattle.ground.proofs.Ground.{grid-length, grid-at}
 use Rattle.moves.specs.declared.Walk.{Walk}
 use Rattle.moves.specs.Walks.{OnGrid, WalkedOn}
@@ -85,9 +85,9 @@ module _ {g : Grid} {start count : ℕ} {old : List ℕ} (d : Drawable g start c
       let z : steps w ≡ 0 = rw (b .no-steps) in
       record {
         at-most = omega arith;
-        is-cell = b .is-cell ∙ ap (cellAfter g start) e;
-        row-in = in-rows (w .row) (w .col) (g .rows) (g .cols) (omega (arith, b .is-cell, d .start-in));
-        col-in = b .col-in;
+        is-cell = b .cell .is-number ∙ ap (cellAfter g start) e;
+        row-in = row-inside (b .cell) (d .start-in);
+        col-in = b .cell .col-in;
         few = omega (arith, z);
         is-written = written-none g start old ∙ ap (written g start old) e;
       }

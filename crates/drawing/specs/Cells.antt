@@ -5,6 +5,7 @@ use mathlib.Core.List.{List, map}
 use mathlib.Core.Option.{none, some}
 use Prim.Native.Nat.{ℕ, zero, suc, _+_, _*_, _≤_, _<_}
 use Rattle.lists.specs.Lists.{upTo}
+use Rattle.cells.specs.Numbers.{RowAndColumn}
 use Rattle.lengths.specs.Rule.{counts}
 use Rattle.ground.specs.Grid.{Grid, cellCount, next}
 use Rattle.moves.specs.declared.Walk.{Walk}
@@ -15,9 +16,8 @@ abbrev pub cellOf : ℕ → Walk → ℕ
 cellOf cols w = w .row * cols + w .col
 
 -- a walk that begins at a cell
-pub record BeginsAt (cols cell : ℕ) (w : Walk) : Type 0 where
-  pub is-cell : cellOf cols w ≡ cell
-  pub col-in : w .col < cols
+pub record BeginsAt (cols number : ℕ) (w : Walk) : Type 0 where
+  pub cell : RowAndColumn cols number (w .row) (w .col)
   pub no-steps : w .length ≡ counts 0 0
 
 module _ (g : Grid) where

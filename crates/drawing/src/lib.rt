@@ -1,4 +1,5 @@
 // Drawing one flow path: the cells of a walk, from its start to its outlet.
+use cells::split_number;
 use checks::is_placed;
 use checks::place_number;
 use lengths::Length;
@@ -24,14 +25,15 @@ pub struct Drawn {
     pub count: usize,
 }
 
-// The walk that begins at a cell. Row and column are found here by division, and carried from then on.
-fn walk_from(cols: usize, cell: usize) -> Walk
+// The walk that begins at a cell.
+fn walk_from(cols: usize, start: u32) -> Walk
     requires { ⌜ 0 < cols ⌝ }
-    ensures { λ r. ⌜ BeginsAt cols cell r ⌝ }
+    ensures { λ r. ⌜ BeginsAt cols start r ⌝ }
 {
+    let cell = split_number(cols, start);
     Walk {
-        row: cell / cols,
-        col: cell % cols,
+        row: cell.row,
+        col: cell.col,
         length: Length::none(),
     }
 }
@@ -99,14 +101,14 @@ fn follow(
     accumulation: &[u32],
     outlets: &[u32],
     outlet: usize,
-    start: usize,
+    start: u32,
 ) -> usize
     requires { ⌜ Surveyed (catchment rows cols (now codes) (now accumulation) (now outlets)) ⌝ }
     requires { ⌜ ground (gridOf rows cols (now codes)) start ≡ true ⌝ }
     ensures { λ r. ⌜ r ≡ pathLength (gridOf rows cols (now (codes .entry))) (now (outlets .entry)) outlet start ⌝ }
 {
     let mut walk = walk_from(cols, start);
-    let mut cell = start;
+    let mut cell = index_of(start);
     let mut mark: u32 = 0;
     loop {
         if meets_outlet(accumulation, outlets, cell, mark) {
@@ -140,9 +142,8 @@ fn path_length(
     ensures { λ r. ⌜ r ≡ pathLength (gridOf rows cols (now (codes .entry))) (now (outlets .entry)) outlet start ⌝ }
 {
     if is_placed(rows, cols, codes, start) {
-        let from = index_of(start);
         let to = index_of(outlet);
-        return follow(rows, cols, codes, accumulation, outlets, to, from);
+        return follow(rows, cols, codes, accumulation, outlets, to, start);
     }
     0
 }
@@ -156,7 +157,7 @@ fn cell_number(cols: usize, walk: Walk) -> u32
 }
 
 // Writes the first cells of the walk from a cell.
-fn write_cells(rows: usize, cols: usize, codes: &[u8], start: usize, count: usize, path: &mut [u32])
+fn write_cells(rows: usize, cols: usize, codes: &[u8], start: u32, count: usize, path: &mut [u32])
     requires { ⌜ Drawable (gridOf rows cols (now codes)) start count (length (now path)) ⌝ }
     ensures { λ _. ⌜ now (path .exit)
         ≡ overlaid (firstCells (gridOf rows cols (now (codes .entry))) start count) (now (path .entry)) ⌝ }
@@ -230,7 +231,7 @@ pub fn draw_into(
     if drawn.count == 0 {
         return drawn;
     }
-    write_cells(rows, cols, codes, index_of(start), drawn.count, path);
+    write_cells(rows, cols, codes, start, drawn.count, path);
     drawn
 }
 

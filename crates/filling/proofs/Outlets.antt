@@ -3,7 +3,7 @@
 use mathlib.Core.Path.{_≡_, refl, ap, _∙_}
 use mathlib.Core.Bool.{true}
 use mathlib.Core.List.{List, [], _∷_}
-use Prim.Native.Nat.{ℕ, _*_, _/_, _%_, _<_}
+use Prim.Native.Nat.{ℕ, _*_}
 use native.Mathlib.Omega.{arith}
 use lib.ListN.{length}
 use lib.Seq.{take-length}
@@ -18,10 +18,7 @@ use Rattle.ground.proofs.Agreement.{noOutlet}
 use Rattle.moves.specs.Walks.{Flows}
 use Rattle.counting.specs.Counting.{Counts}
 use Rattle.counting.proofs.Words.{ground-word, null-word}
-use Rattle.downstream.specs.Offsets.{offsetsOf}
-use Rattle.downstream.specs.Flowing.{Numbered}
 use Rattle.filling.specs.Packed.{oneEach}
-use Rattle.downstream.proofs.Flowing.{numbered}
 use Rattle.filling.specs.Filling.{Fillable, upsCut, Flagged, Looked}
 use Rattle.filling.proofs.Cut.{total-uncut}
 use Rattle.filling.proofs.Flags.{cut-network}
@@ -31,11 +28,6 @@ use Rattle.filling.proofs.Flagging.{flagging-same}
 -- a cell that another flows to
 pub flows-ground : (g : Grid) (x y : ℕ) → Flows g x y → ground g y ≡ true
 flows-ground g x y to = network g .lands x (record { cell = y; step = to .0 }) (to .1)
-
--- a cell's number split into row and column
-pub split : {rows cols : ℕ} {codes outlets words steps : List ℕ} {at : ℕ} → Fillable rows cols codes outlets words
-    → at < rows * cols → steps ≡ offsetsOf cols → Numbered rows cols codes steps (at / cols) (at % cols) at
-split f h e = numbered (f .grid) (f .some-cols) h e
 
 module _ {rows cols : ℕ} {codes outlets l : List ℕ} (f : Fillable rows cols codes outlets l) where
   abbrev land : Grid

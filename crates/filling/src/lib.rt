@@ -4,6 +4,8 @@
 // inflows are not yet passed down, and `partial` is 1 and the sum of those that are. A cell is done that is passed
 // down, or null and looked at. Some parameters serve the contracts alone: `outlets` in all that look and go down, since
 // the flags tell the outlets, and `looked` and `done` of a step.
+use cells::Cell;
+use cells::split_number;
 use counting::INFLOW;
 use counting::count_all;
 use downstream::Downstream;
@@ -11,7 +13,6 @@ use downstream::downstream_of;
 use downstream::offsets;
 use lists::clear;
 use lists::index_of;
-use moves::Cell;
 ghost use Prim.Native.Nat.{_+_, _*_, _≤_, _<_};
 ghost use lib.ListN.{length};
 ghost use Rattle.lists.specs.Slices.{Kept, Within};
@@ -37,7 +38,8 @@ fn flag_at(rows: usize, cols: usize, codes: &[u8], outlets: &[u32], words: &mut 
     }
     words[at] = own + FLAG;
     let steps = offsets(cols);
-    match downstream_of(rows, cols, codes, &steps, at / cols, at % cols, at) {
+    let outlet = split_number(cols, outlets[place]);
+    match downstream_of(rows, cols, codes, &steps, outlet.row, outlet.col, at) {
         Downstream::End => return,
         Downstream::To {
             row: _,

@@ -6,7 +6,7 @@ use mathlib.Core.Logic.{inl}
 use mathlib.Core.List.{List, [], _∷_, map}
 use mathlib.Core.Option.{Option, none, some}
 use Prim.Native.Nat.{ℕ, zero, suc, _+_, _*_, _/_, _%_, _≤_, _<_}
-use native.Mathlib.Nat.{div-add-mod', mod-lt, div-lt-iff-lt-mul, mul-le-mul, le-refl}
+use native.Mathlib.Nat.{div-add-mod', mod-lt, div-lt-iff-lt-mul}
 use native.Mathlib.Omega.{arith}
 use native.Mathlib.Decide.{decLt}
 use lib.ListN.{getD}
@@ -219,10 +219,3 @@ module _ (g : Grid) where
   pub null-balance : (a : List ℕ) (x : ℕ) → ground g x ≡ false → balance g a x ≡ 0
   unfolding balance
   null-balance a x v = rw v
-
--- a cell number below R × C has its row on the grid
-pub in-rows : (row col rows cols : ℕ) → row * cols + col < rows * cols → row < rows
-in-rows row col rows cols h = elim (decLt row rows) [ yes l ↦ l | no l ↦ absurd (never (omega arith)) ]
-  where
-    never : rows ≤ row → ⊥
-    never l = omega (arith, mul-le-mul l (le-refl cols))

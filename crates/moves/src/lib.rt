@@ -3,7 +3,7 @@
 use lengths::Length;
 use lengths::Step;
 ghost use mathlib.Core.Path.{_≡_};
-ghost use Prim.Native.Nat.{_*_, _+_, _≤_, _<_};
+ghost use Prim.Native.Nat.{_*_, _+_, _<_};
 ghost use lib.ListN.{getD};
 ghost use Rattle.ground.specs.Grid.{gridOf};
 ghost use Rattle.moves.specs.Lent.{OnCell};
@@ -89,31 +89,6 @@ pub fn spot_at(rows: usize, cols: usize, row: usize, col: usize, down: usize, ri
         return Spot::Off;
     }
     Spot::On { row: r, col: c }
-}
-
-// A cell, and the next one, row by row.
-pub struct Cell {
-    pub row: usize,
-    pub col: usize,
-}
-
-impl Cell {
-    pub fn next(self, cols: usize) -> Cell
-        requires { ⌜ (self .row ≤ 4096) × (self .col < cols) × (cols ≤ 4096) ⌝ }
-        ensures { λ r. ⌜ (r .row * cols + r .col ≡ self .row * cols + self .col + 1) × (r .col < cols) ⌝ }
-    {
-        let right = self.col + 1;
-        if right < cols {
-            return Cell {
-                row: self.row,
-                col: right,
-            };
-        }
-        Cell {
-            row: self.row + 1,
-            col: 0,
-        }
-    }
 }
 
 // The cell that a cell flows to by the step of its code: none off the grid, and none where that cell is null.

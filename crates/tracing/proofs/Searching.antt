@@ -3,10 +3,11 @@
 use mathlib.Core.Path.{_≡_, refl, sym, ap, _∙_, subst}
 use mathlib.Core.Bool.{Bool, true, false}
 use mathlib.Core.List.{List, [], _∷_, map}
-use Prim.Native.Nat.{ℕ, _+_, _*_, _/_, _%_, _<_}
-use native.Mathlib.Nat.{div-add-mod', mod-lt, div-lt-iff-lt-mul}
+use Prim.Native.Nat.{ℕ, _+_, _*_, _<_}
 use native.Mathlib.Omega.{arith}
 use lib.ListN.{length, getD, length-map}
+use Rattle.cells.specs.Numbers.{RowAndColumn}
+use Rattle.cells.proofs.Numbers.{row-inside}
 use Rattle.lengths.specs.declared.Length.{Length}
 use Rattle.ground.specs.Grid.{Grid, gridOf, ground}
 use Rattle.ground.specs.Accumulation.{subaccumulation}
@@ -51,34 +52,28 @@ module _ {rows cols : ℕ} {codes outlets subaccumulations : List ℕ}
       let i = ground-within land outlet (chosen .solid) in
       (omega (arith, i, ready .has-subaccumulations), ready .filled outlet i)
 
-  -- its row and its column, by its number
-  module _ {x : ℕ} (is : x ≡ outlet) where
-    row-col : x / cols * cols + x % cols ≡ outlet
-    row-col = div-add-mod' x cols ∙ is
+  -- by its row and its column
+  module _ {row col : ℕ} (cell : RowAndColumn cols (getD outlets place 0) row col) where
+    pub at-outlet : OnGround rows cols codes row col
+    at-outlet = record {
+      row-in = row-inside cell (ground-within land outlet (chosen .solid));
+      col-in = cell .col-in;
+      solid = subst (λ (y : ℕ). ground land y ≡ true) (sym (cell .is-number)) (chosen .solid);
+    }
 
-    pub at-outlet : OnGround rows cols codes (x / cols) (x % cols)
-    at-outlet =
-        let inside = ground-within land outlet (chosen .solid) in
-        record {
-          row-in = div-lt-iff-lt-mul (chosen .some-cols) .1 (omega (arith, inside, is));
-          col-in = mod-lt x (chosen .some-cols);
-          solid = subst (λ (y : ℕ). ground land y ≡ true) (sym row-col) (chosen .solid);
-        }
-
-    pub cells-there : cellsAt rows cols codes outlets (x / cols) (x % cols) ≡ cellsOf rows cols codes outlets place
-    cells-there = ap (subaccumulation land outlets) row-col
+    pub cells-there : cellsAt rows cols codes outlets row col ≡ cellsOf rows cols codes outlets place
+    cells-there = ap (subaccumulation land outlets) (cell .is-number)
 
     pub searched-there : {dropping : Bool} {end : ℕ} {p : Progress} {new : List ℕ}
-        → Searched land outlets dropping (x / cols * cols + x % cols) end p new
+        → Searched land outlets dropping (row * cols + col) end p new
         → Searched land outlets dropping outlet end p new
     searched-there {dropping} {end} {p} {new} s =
-        subst (λ (y : ℕ). Searched land outlets dropping y end p new) row-col s
+        subst (λ (y : ℕ). Searched land outlets dropping y end p new) (cell .is-number) s
 
     -- the same in as much working space as the outlet has cells
     pub searched-within : {dropping : Bool} {p : Progress} {new : List ℕ} {n : ℕ}
         → n ≡ cellsOf rows cols codes outlets place
-        → Searched land outlets dropping (x / cols * cols + x % cols)
-        (3 * cellsAt rows cols codes outlets (x / cols) (x % cols)) p new
+        → Searched land outlets dropping (row * cols + col) (3 * cellsAt rows cols codes outlets row col) p new
         → Searched land outlets dropping outlet (3 * n) p new
     searched-within {dropping} {p} {new} e s =
         subst (λ (m : ℕ). Searched land outlets dropping outlet (3 * m) p new) (cells-there ∙ sym e)

@@ -1,5 +1,6 @@
 // Tracing all longest paths to an outlet of a list.
 use answers::Traced;
+use cells::split_number;
 use checks::place_number;
 use filling::fill;
 use listing::answer_for;
@@ -35,7 +36,7 @@ fn by_recursion(
     ensures { λ r. ⌜ Lists (tracingAt rows cols (now (codes .entry)) (now (outlets .entry)) place dropping)
         (now (starts .entry)) r (now (starts .exit)) ⌝ }
 {
-    let outlet = index_of(outlets[place]);
+    let outlet = split_number(cols, outlets[place]);
     let mut found = [0u32; 4096];
     let p = recursion::trace(
         rows,
@@ -44,8 +45,8 @@ fn by_recursion(
         outlets,
         subaccumulation,
         dropping,
-        outlet / cols,
-        outlet % cols,
+        outlet.row,
+        outlet.col,
         &mut found,
     );
     list_starts(&found, 4096, p.paths, starts);
@@ -72,8 +73,9 @@ fn by_stack(
         (now (starts .entry)) (cellsOf rows cols (now (codes .entry)) (now (outlets .entry)) place)
         (now (work .entry)) r (now (starts .exit)) (now (work .exit)) ⌝ }
 {
-    let own = index_of(outlets[place]);
-    let end = NUMBERS_EACH * index_of(subaccumulation[own]);
+    let at = index_of(outlets[place]);
+    let end = NUMBERS_EACH * index_of(subaccumulation[at]);
+    let outlet = split_number(cols, outlets[place]);
     let p = stack::trace(
         rows,
         cols,
@@ -81,8 +83,8 @@ fn by_stack(
         outlets,
         subaccumulation,
         dropping,
-        own / cols,
-        own % cols,
+        outlet.row,
+        outlet.col,
         work,
     );
     list_starts(work, end, p.paths, starts);

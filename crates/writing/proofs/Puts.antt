@@ -2,13 +2,15 @@
 -- Assumes nothing.
 use mathlib.Core.Path.{_≡_, refl, sym, ap, _∙_}
 use mathlib.Core.List.{List, [], _∷_, _++_, append-nil, append-assoc}
-use Prim.Native.Nat.{ℕ, zero, suc, _+_, _-_, _*_, _/_, _%_, _≤_, _<_}
+use Prim.Native.Nat.{ℕ, zero, suc, _+_, _-_, _*_, _≤_, _<_}
 use native.Mathlib.Nat.{add-zero, zero-add, zero-mul, suc-mul}
 use native.Mathlib.Numerals.{add-one}
 use native.Mathlib.Omega.{arith}
 use lib.ListN.{length, getD, take, drop, length-append, length-drop}
 use lib.Seq.{take-suc, drop-drop, length-take-le}
 use Rattle.lists.proofs.Overlaid.{sets-after}
+use Rattle.cells.specs.Numbers.{RowAndColumn}
+use Rattle.cells.proofs.Numbers.{is-row, is-col}
 use Rattle.spelling.specs.Format.{rowRecord, outletRecord, rowRecords, outletRecords}
 use Rattle.spelling.proofs.Sizes.{rows-length, outlets-length}
 use Rattle.writing.specs.declared.Cursor.{Cursor}
@@ -68,11 +70,11 @@ unfolding outletRecords
 outlets-both cols [] more = refl
 outlets-both cols (o ∷ os) more = rw (outlets-both cols os more)
 
-pub outlets-next : (cols k o : ℕ) (os : List ℕ) → k < length os → o ≡ getD os k 0
-    → outletRecords cols (take (k + 1) os) ≡ outletRecords cols (take k os) ++ outletRecord (o / cols) (o % cols)
+pub outlets-next : (cols k : ℕ) (os : List ℕ) {row col : ℕ} → k < length os → RowAndColumn cols (getD os k 0) row col
+    → outletRecords cols (take (k + 1) os) ≡ outletRecords cols (take k os) ++ outletRecord row col
 unfolding outletRecords
-outlets-next cols k o os h e =
-    rw (add-one k, take-suc os k 0 h, e) (outlets-both cols (take k os) (getD os k 0 ∷ []))
+outlets-next cols k os h cell =
+    rw (add-one k, take-suc os k 0 h, is-row cell, is-col cell) (outlets-both cols (take k os) (getD os k 0 ∷ []))
 
 pub outlets-land : (cols k : ℕ) (os : List ℕ) {at : ℕ} {l m : List ℕ} {here : Cursor}
     → Puts (outletRecords cols (take k os)) at l here m → k ≤ length os → here .at ≡ at + 6 * k

@@ -1,4 +1,5 @@
 // Writing a sheet, byte for byte (01, Sheet and desk).
+use cells::split_number;
 use lists::copy;
 use lists::index_of;
 use spelling::Written;
@@ -153,8 +154,8 @@ fn put_outlets(file: &mut [u8], start: Cursor, outlets: &[u32], cols: usize) -> 
     let mut here = start;
     let mut k: usize = 0;
     while k < outlets.len() {
-        let cell = index_of(outlets[k]);
-        here = put_pair(file, here, b'O', b'T', cell / cols, cell % cols);
+        let cell = split_number(cols, outlets[k]);
+        here = put_pair(file, here, b'O', b'T', cell.row, cell.col);
         k += 1;
     }
     here

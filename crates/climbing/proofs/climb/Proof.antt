@@ -15,21 +15,30 @@ use Rattle.climbing.proofs.climb.Statement.{statement}
 use Rattle.climbing.proofs.climb.Tie as tie
 
 abbrev Inv-loop : tie.InvT-loop
-Inv-loop rows cols codes outlets steps ds₀ dd₀ us₀ ud₀ place o p₀ ds dd us ud p =
+Inv-loop rows cols codes outlets steps ds₀ dd₀ us₀ ud₀ place p₀ ds dd us ud p =
     Standing rows cols codes outlets steps place (p .row) (p .col) (p .at) (p .turn) (lengthGrids ds₀ dd₀ us₀ ud₀)
     (lengthGrids ds dd us ud)
 
 abbrev μ-loop : tie.MeasureT-loop
-μ-loop rows cols codes outlets steps ds₀ dd₀ us₀ ud₀ place o p₀ ds dd us ud p =
+μ-loop rows cols codes outlets steps ds₀ dd₀ us₀ ud₀ place p₀ ds dd us ud p =
     2 * blanks (rows * cols) ds dd + (getD ds (p .at) 0 + getD dd (p .at) 0 % 2 ^ 31)
 
 -- the function's start, seen from where the next turn is known
 abbrev start : tie.After-next-turn Inv-loop μ-loop → tie.Start Inv-loop μ-loop
-start e = e .before .before .before .before .before .before .before .before .before .before .before
+start e = e .before .before .before .before .before .before .before .before .before .before .before .before .before
 
 -- and that place, seen from where the way goes down
 abbrev turned : tie.Else2 Inv-loop μ-loop → tie.After-next-turn Inv-loop μ-loop
 turned d = d .before .before .before
+
+mul-split-number : tie.Need-mul-split-number Inv-loop μ-loop
+mul-split-number c = search needs
+
+shared-slice-read-split-number : tie.Need-shared-slice-read-split-number Inv-loop μ-loop
+shared-slice-read-split-number c = search needs
+
+split-number-requires : tie.Need-split-number-requires Inv-loop μ-loop
+split-number-requires c κs = c .before .before .before .before .before .before .before .pre .0 .some-cols
 
 mul-index-of : tie.Need-mul-index-of Inv-loop μ-loop
 mul-index-of c = search needs
@@ -40,20 +49,15 @@ shared-slice-read-index-of c = search needs
 index-of-requires : tie.Need-index-of-requires Inv-loop μ-loop
 index-of-requires c κs = search needs
 
-div-t16 : tie.Need-div-t16 Inv-loop μ-loop
-div-t16 c = c .before .before .before .before .before .before .before .before .pre .0 .some-cols
-
-rem-t19 : tie.Need-rem-t19 Inv-loop μ-loop
-rem-t19 c = c .before .before .before .before .before .before .before .before .pre .0 .some-cols
-
 loop-holds : tie.Need-loop-holds Inv-loop μ-loop
 loop-holds c =
-    let s = c .before .before .before .before .before .before .before .before .pre in
+    let s = c .before .before .before .before .before .before .before .before .before .before .pre in
     standing-begin (s .0) (s .1 .0 .1) (s .1 .0 .0) (c .index-of .ensures .0) (s .1 .1)
+    (rw (c .index-of .ensures .0) (c .before .before .split-number .ensures))
 
 next-turn-requires : tie.Need-next-turn-requires Inv-loop μ-loop
 next-turn-requires c κs =
-    let s = c .before .before .before .before .before .before .before .before .before .before .pre in
+    let s = c .before .before .before .before .before .before .before .before .before .before .before .before .pre in
     let l = c .before .loop .inv in
     record { on = l .on; has-marks = room-now (s .0) l .down-diagonal; turn-small = l .turn-small }
 
@@ -203,11 +207,12 @@ climb-spec =
     (tie.spec
     Inv-loop
     μ-loop
+    mul-split-number
+    shared-slice-read-split-number
+    split-number-requires
     mul-index-of
     shared-slice-read-index-of
     index-of-requires
-    div-t16
-    rem-t19
     loop-holds
     next-turn-requires
     mul-if2

@@ -26,15 +26,12 @@ returns c =
     let s = start-of j in
     nothing-written (asked s) (s .args .path .now) (j .judge .ensures) (c .if1 .taken)
 
-index-of-requires : tie.Need-index-of-requires
-index-of-requires c κs = search needs
-
 write-cells-requires : tie.Need-write-cells-requires
 write-cells-requires c κs =
-    let e = c .before .before in
+    let e = c .before in
     let j = e .before .before in
     let s = start-of j in
-    drawable (asked s) (s .args .path .now) (j .judge .ensures) (e .if1 .left) (c .before .index-of .ensures .0)
+    drawable (asked s) (s .args .path .now) (j .judge .ensures) (e .if1 .left)
 
 same-length-2 : tie.Need-same-length-2
 same-length-2 c = search needs
@@ -42,12 +39,10 @@ same-length-2 c = search needs
 returns-2 : tie.Need-returns-2
 returns-2 c =
     let w = c .before .before in
-    let i = w .before .before in
-    let e = i .before in
+    let e = w .before .before in
     let j = e .before .before in
     let s = start-of j in
-    cells-written (asked s) (s .args .path .now) (j .judge .ensures) (e .if1 .left) (i .index-of .ensures .0)
-    (w .write-cells .ensures)
+    cells-written (asked s) (s .args .path .now) (j .judge .ensures) (e .if1 .left) (w .write-cells .ensures)
 
 pub draw-into-spec : {M : Type 1} → statement M
 draw-into-spec =
@@ -56,7 +51,6 @@ draw-into-spec =
     judge-requires
     same-length
     returns
-    index-of-requires
     write-cells-requires
     same-length-2
     returns-2)

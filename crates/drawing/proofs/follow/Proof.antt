@@ -26,14 +26,18 @@ abbrev μ-loop : tie.MeasureT-loop
 walk-from-requires : tie.Need-walk-from-requires Inv-loop μ-loop
 walk-from-requires c κs = c .before .before .before .pre .0 .some-cols
 
+index-of-requires : tie.Need-index-of-requires Inv-loop μ-loop
+index-of-requires c κs = search needs
+
 loop-holds : tie.Need-loop-holds Inv-loop μ-loop
 loop-holds c =
-    let s = c .before .before .before .before in
-    begun (s .pre .0) (s .args .outlet) (s .args .start) (s .pre .1) (c .walk-from .ensures)
+    let s = c .before .before .before .before .before in
+    rw (c .index-of .ensures .0)
+    (begun (s .pre .0) (s .args .outlet) (s .args .start) (s .pre .1) (c .before .walk-from .ensures))
 
 -- the function's start, seen from the loop
 abbrev start-of : tie.At-loop Inv-loop μ-loop → tie.Start Inv-loop μ-loop
-start-of l = l .before .before .before .before .before
+start-of l = l .before .before .before .before .before .before
 
 meets-outlet-requires : tie.Need-meets-outlet-requires Inv-loop μ-loop
 meets-outlet-requires c κs = marked-at (c .loop .inv) (start-of c .pre .0)
@@ -57,11 +61,11 @@ add-index-of c =
     let s = start-of l .pre .0 in
     omega (arith, size (s .grid .sides), few-steps (l .loop .inv) s)
 
-index-of-requires : tie.Need-index-of-requires Inv-loop μ-loop
-index-of-requires c κs = search needs
+index-of-requires-2 : tie.Need-index-of-requires-2 Inv-loop μ-loop
+index-of-requires-2 c κs = search needs
 
 add-result : tie.Need-add-result Inv-loop μ-loop
-add-result c = omega (arith, c .index-of .ensures .1)
+add-result c = omega (arith, c .index-of2 .ensures .1)
 
 returns-2 : tie.Need-returns-2 Inv-loop μ-loop
 returns-2 c =
@@ -69,7 +73,7 @@ returns-2 c =
     let l = t .before .before .before in
     omega (
       arith,
-      c .index-of .ensures .0,
+      c .index-of2 .ensures .0,
       arrived (l .loop .inv) (sym (t .before .before .meets-outlet .ensures) ∙ t .before .if1 .taken) (t .if2 .left),
     )
 
@@ -122,11 +126,12 @@ follow-spec =
     Inv-loop
     μ-loop
     walk-from-requires
+    index-of-requires
     loop-holds
     meets-outlet-requires
     returns
     add-index-of
-    index-of-requires
+    index-of-requires-2
     add-result
     returns-2
     mark-after-requires

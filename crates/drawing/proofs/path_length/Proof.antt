@@ -1,9 +1,11 @@
 -- `drawing::path_length` meets its contract: beyond the grid and at a null cell there is nothing to draw.
 -- Assumes nothing.
 use mathlib.Core.Path.{sym, ap, _∙_}
+use Prim.Native.Nat.{ℕ}
 use borrow.Author.Needs.{needs}
-use Rattle.ground.specs.Grid.{gridOf, ground}
-use Rattle.drawing.proofs.Following.{placed-solid, not-placed, measured}
+use Rattle.ground.specs.Grid.{gridOf}
+use Rattle.drawing.specs.Measuring.{pathLength}
+use Rattle.drawing.proofs.Following.{placed-solid, not-placed}
 use Rattle.drawing.proofs.path_length.Statement.{statement}
 use Rattle.drawing.proofs.path_length.Tie as tie
 
@@ -13,23 +15,20 @@ is-placed-requires c κs = search needs
 index-of-requires : tie.Need-index-of-requires
 index-of-requires c κs = search needs
 
-index-of-requires-2 : tie.Need-index-of-requires-2
-index-of-requires-2 c κs = search needs
-
 follow-requires : tie.Need-follow-requires
 follow-requires c κs =
-    let t = c .before .before in
+    let t = c .before in
     let s = t .before .before .before .before .before in
     let land = gridOf (s .args .rows) (s .args .cols) (s .args .codes .now) in
-    let solid = placed-solid land (s .args .start) (sym (t .before .is-placed .ensures) ∙ t .if1 .taken) in
-    (s .pre, ap (ground land) (c .before .index-of .ensures .0) ∙ solid)
+    (s .pre, placed-solid land (s .args .start) (sym (t .before .is-placed .ensures) ∙ t .if1 .taken))
 
 returns : tie.Need-returns
 returns c =
     let i = c .before in
-    let a = i .before .before .before .before .before .before .before .args in
-    measured (gridOf (a .rows) (a .cols) (a .codes .now)) (a .outlets .now) (c .follow .ensures)
-    (i .index-of2 .ensures .0) (i .before .index-of .ensures .0)
+    let a = i .before .before .before .before .before .before .args in
+    c .follow .ensures
+    ∙ ap (λ (o : ℕ). pathLength (gridOf (a .rows) (a .cols) (a .codes .now)) (a .outlets .now) o (a .start))
+    (i .index-of .ensures .0)
 
 returns-2 : tie.Need-returns-2
 returns-2 c =
@@ -42,7 +41,6 @@ path-length-spec =
     (tie.spec
     is-placed-requires
     index-of-requires
-    index-of-requires-2
     follow-requires
     returns
     returns-2)

@@ -5,7 +5,7 @@ use borrow.Author.Needs.{needs}
 use Rattle.lists.proofs.Kept.{kept-all, kept-then, kept-set}
 use Rattle.ground.specs.Grid.{gridOf}
 use Rattle.moves.specs.Walks.{Flows}
-use Rattle.filling.proofs.Outlets.{split}
+use Rattle.downstream.proofs.Flowing.{numbered}
 use Rattle.filling.proofs.NextOutlet.{Next, o-inside, o-room, again, at-end}
 use Rattle.filling.proofs.NextOutlet.{z-inside, z-room, z-waits, waits-less}
 use Rattle.filling.proofs.flag_at.Statement.{statement}
@@ -53,16 +53,20 @@ slice-write-words c = o-room (outlet (c .before .before))
 offsets-requires : tie.Need-offsets-requires
 offsets-requires c κs = search needs
 
-div-downstream-of : tie.Need-div-downstream-of
-div-downstream-of c = search needs
+mul-split-number : tie.Need-mul-split-number
+mul-split-number c = search needs
 
-rem-downstream-of : tie.Need-rem-downstream-of
-rem-downstream-of c = search needs
+shared-slice-read-split-number : tie.Need-shared-slice-read-split-number
+shared-slice-read-split-number c = search needs
+
+split-number-requires : tie.Need-split-number-requires
+split-number-requires c κs = search needs
 
 downstream-of-requires : tie.Need-downstream-of-requires
 downstream-of-requires c κs =
-    let o = outlet (c .before .before .before .before) in
-    split (o .fillable) (o-inside o) (c .before .offsets .ensures)
+    let o = outlet (c .before .before .before .before .before .before) in
+    numbered (o .fillable .grid) (rw (o .is-outlet) (c .before .split-number .ensures)) (o-inside o)
+    (c .before .before .before .offsets .ensures)
 
 enum-told : tie.Need-enum-told
 enum-told c = search needs
@@ -72,8 +76,8 @@ same-length c = search needs
 
 returns-2 : tie.Need-returns-2
 returns-2 c =
-    let o = outlet (c .before .before .before .before .before .before .before) in (
-      at-end o (c .before .before .before .before .before .if1 .left)
+    let o = outlet (c .before .before .before .before .before .before .before .before .before) in (
+      at-end o (c .before .before .before .before .before .before .before .if1 .left)
           (c .before .before .downstream-of .ensures .ends-here (c .enum-told .given .1)),
       kept-set _ _ (o-inside o),
     )
@@ -81,51 +85,46 @@ returns-2 c =
 enum-known-to : tie.Need-enum-known-to
 enum-known-to c = search needs
 
--- the cell that it flows to, seen from where that is known
-to : (c : tie.After-known-told) → let a =
-    c .before .before .before .before .before .before .before .before .before .before .before .before .before .args in
-    Flows (gridOf (a .rows) (a .cols) (a .codes .now))
-    (c .before .before .before .before .before .before .before .before .index-of .result)
-    (c .before .to .given .0 .1 .1 .0)
+-- where the outlet was not yet flagged, seen from where the cell that it flows to is known; and that cell
+abbrev unflagged : tie.After-known-told → tie.Else1
+unflagged c = c .before .before .before .before .before .before .before .before
+
+to : (c : tie.After-known-told) → let i = unflagged c .before .before in
+    let a = i .before .before .before .before .before .args in
+    Flows (gridOf (a .rows) (a .cols) (a .codes .now)) (i .index-of .result) (c .before .to .given .0 .1 .1 .0)
 to c = c .before .before .before .downstream-of .ensures .goes-on _ _ _ (c .before .to .given .1)
 
 mul-below : tie.Need-mul-below
-mul-below c = omega (
-  arith,
-  z-inside (outlet (c .before .before .before .before .before .before .before .before))
-      (c .before .before .before .before .before .before .if1 .left) (to c),
-)
+mul-below c = let u = unflagged c in omega (arith, z-inside (outlet (u .before .before)) (u .if1 .left) (to c))
 
 slice-read-below : tie.Need-slice-read-below
-slice-read-below c = z-room (outlet (c .before .before .before .before .before .before .before .before .before))
-    (c .before .before .before .before .before .before .before .if1 .left) (to (c .before))
+slice-read-below c =
+    let u = unflagged (c .before) in
+    z-room (outlet (u .before .before)) (u .if1 .left) (to (c .before))
 
 sub-words : tie.Need-sub-words
-sub-words c = z-waits (outlet (c .before .before .before .before .before .before .before .before .before))
-    (c .before .before .before .before .before .before .before .if1 .left) (to (c .before))
+sub-words c = let u = unflagged (c .before) in z-waits (outlet (u .before .before)) (u .if1 .left) (to (c .before))
 
 mul-words-2 : tie.Need-mul-words-2
-mul-words-2 c = omega (
-  arith,
-  z-inside (outlet
-      (c .before .before .before .before .before .before .before .before .before))
-      (c .before .before .before .before .before .before .before .if1 .left) (to (c .before)),
-)
+mul-words-2 c =
+    let u = unflagged (c .before) in
+    omega (arith, z-inside (outlet (u .before .before)) (u .if1 .left) (to (c .before)))
 
 slice-write-words-2 : tie.Need-slice-write-words-2
-slice-write-words-2 c = z-room (outlet (c .before .before .before .before .before .before .before .before .before))
-    (c .before .before .before .before .before .before .before .if1 .left) (to (c .before))
+slice-write-words-2 c =
+    let u = unflagged (c .before) in
+    z-room (outlet (u .before .before)) (u .if1 .left) (to (c .before))
 
 same-length-2 : tie.Need-same-length-2
 same-length-2 c = search needs
 
 returns-3 : tie.Need-returns-3
 returns-3 c =
-    let o = outlet (c .before .before .before .before .before .before .before .before .before) in
-    let low = c .before .before .before .before .before .before .before .if1 .left in
+    let u = unflagged (c .before) in
+    let o = outlet (u .before .before) in
     let there = to (c .before) in (
-      waits-less o low there,
-      kept-then (kept-set _ _ (o-inside o)) (kept-set _ _ (z-inside o low there .0)),
+      waits-less o (u .if1 .left) there,
+      kept-then (kept-set _ _ (o-inside o)) (kept-set _ _ (z-inside o (u .if1 .left) there .0)),
     )
 
 pub flag-at-spec : {M : Type 1} → statement M
@@ -142,8 +141,9 @@ flag-at-spec =
     mul-words
     slice-write-words
     offsets-requires
-    div-downstream-of
-    rem-downstream-of
+    mul-split-number
+    shared-slice-read-split-number
+    split-number-requires
     downstream-of-requires
     enum-told
     same-length

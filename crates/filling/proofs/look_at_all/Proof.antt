@@ -5,6 +5,7 @@ use native.Mathlib.Omega.{arith}
 use borrow.Author.Needs.{needs}
 use Rattle.ground.specs.Grid.{gridOf}
 use Rattle.moves.proofs.Spots.{size}
+use Rattle.downstream.proofs.Flowing.{numbered}
 use Rattle.filling.specs.Filling.{Looked}
 use Rattle.filling.proofs.Kept.{fillable-kept}
 use Rattle.filling.proofs.Scans.{Scan, scan-begin, scan-row, scan-on, scan-end}
@@ -34,11 +35,8 @@ look-at-requires c κs =
     let f = fillable-kept (v .kept) (s .pre .0) in (
       record {
         fillable = f;
-        numbered = record {
-          on = record { grid = f .grid; row-in = scan-row v (c .before .before .loop-test .taken); col-in = v .col-in };
-          is-at = v .is-at;
-          are-offsets = c .before .before .before .before .offsets .ensures;
-        };
+        numbered = numbered (f .grid) (v .cell) (c .before .before .loop-test .taken)
+            (c .before .before .before .before .offsets .ensures);
       },
       v .holds,
     )
@@ -52,7 +50,7 @@ next-requires c κs =
         scan-row v (c .before .before .before .before .before .loop-test .taken),
         s .pre .0 .grid .sides .rows-small,
       ),
-      v .col-in,
+      v .cell .col-in,
       s .pre .0 .grid .sides .cols-small,
     )
 

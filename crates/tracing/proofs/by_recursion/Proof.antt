@@ -10,25 +10,19 @@ use Rattle.tracing.proofs.Searching.{at-outlet, cells-there, searched-t
 use Rattle.tracing.proofs.by_recursion.Statement.{statement}
 use Rattle.tracing.proofs.by_recursion.Tie as tie
 
-mul-index-of : tie.Need-mul-index-of
-mul-index-of c = search needs
+mul-split-number : tie.Need-mul-split-number
+mul-split-number c = search needs
 
-shared-slice-read-index-of : tie.Need-shared-slice-read-index-of
-shared-slice-read-index-of c = search needs
+shared-slice-read-split-number : tie.Need-shared-slice-read-split-number
+shared-slice-read-split-number c = search needs
 
-index-of-requires : tie.Need-index-of-requires
-index-of-requires c κs = search needs
-
-div-trace : tie.Need-div-trace
-div-trace c = search needs
-
-rem-trace : tie.Need-rem-trace
-rem-trace c = search needs
+split-number-requires : tie.Need-split-number-requires
+split-number-requires c κs = search needs
 
 trace-requires : tie.Need-trace-requires
 trace-requires c κs =
     let s = c .before .before .before .before .before .before .before in
-    let e = c .before .index-of .ensures .0 in (
+    let e = c .before .split-number .ensures in (
       s .pre .0,
       (
         at-outlet (s .pre .0) (s .pre .1 .0) e,
@@ -45,7 +39,7 @@ searched : (c : tie.After-trace) → let a = c .before .before .before .before .
     (getD (a .outlets .now) (a .place) 0) 4096 (c .trace .result) (c .trace .last .1 .1 .1 .1 .1 .1 .1 .1 .0)
 searched c =
     let s = c .before .before .before .before .before .before .before .before in
-    searched-there (s .pre .0) (s .pre .1 .0) (c .before .before .index-of .ensures .0) (c .trace .ensures .searched)
+    searched-there (s .pre .0) (s .pre .1 .0) (c .before .before .split-number .ensures) (c .trace .ensures .searched)
 
 list-starts-requires : tie.Need-list-starts-requires
 list-starts-requires c κs =
@@ -71,11 +65,9 @@ pub by-recursion-spec : {M : Type 1} → statement M
 by-recursion-spec =
     tie.close
     (tie.spec
-    mul-index-of
-    shared-slice-read-index-of
-    index-of-requires
-    div-trace
-    rem-trace
+    mul-split-number
+    shared-slice-read-split-number
+    split-number-requires
     trace-requires
     slice-aggregate-list-starts
     list-starts-requires

@@ -38,16 +38,19 @@ index-of-requires-2 c κs = search needs
 mul-end : tie.Need-mul-end
 mul-end c = search needs
 
-div-trace : tie.Need-div-trace
-div-trace c = search needs
+mul-split-number : tie.Need-mul-split-number
+mul-split-number c = search needs
 
-rem-trace : tie.Need-rem-trace
-rem-trace c = search needs
+shared-slice-read-split-number : tie.Need-shared-slice-read-split-number
+shared-slice-read-split-number c = search needs
+
+split-number-requires : tie.Need-split-number-requires
+split-number-requires c κs = search needs
 
 trace-requires : tie.Need-trace-requires
 trace-requires c κs =
-    let s = c .before .before .before .before .before .before .before .before .before .before in
-    let e = c .before .before .before .index-of .ensures .0 in (
+    let s = c .before .before .before .before .before .before .before .before .before .before .before .before in
+    let e = c .before .split-number .ensures in (
       s .pre .0,
       (
         at-outlet (s .pre .0) (s .pre .1 .0) e,
@@ -57,29 +60,33 @@ trace-requires c κs =
 
 -- the function's start, seen from after the search; the cells of the outlet, as the code has them
 abbrev start : tie.After-trace → tie.Start
-start t = t .before .before .before .before .before .before .before .before .before .before .before
+start t = t .before .before .before .before .before .before .before .before .before .before .before .before .before
+
+abbrev cells : tie.After-trace → ℕ
+cells t = t .before .before .before .before .index-of2 .result
 
 own : (t : tie.After-trace) → let a = start t .args in
-    t .before .before .index-of2 .result ≡ cellsOf (a .rows) (a .cols) (a .codes .now) (a .outlets .now) (a .place)
+    cells t ≡ cellsOf (a .rows) (a .cols) (a .codes .now) (a .outlets .now) (a .place)
 own t =
     let s = start t in
-    t .before .before .index-of2 .ensures .0
-    ∙ ap (λ (x : ℕ). getD (s .args .subaccumulation .now) x 0) (t .before .before .before .before .index-of .ensures .0)
+    t .before .before .before .before .index-of2 .ensures .0
+    ∙ ap (λ (x : ℕ). getD (s .args .subaccumulation .now) x 0)
+    (t .before .before .before .before .before .before .index-of .ensures .0)
     ∙ own-cells (s .pre .0) (s .pre .1 .0) .1
 
 -- the search at the chosen outlet
 searched : (t : tie.After-trace) → let a = start t .args in
     Searched (gridOf (a .rows) (a .cols) (a .codes .now)) (a .outlets .now) (a .dropping)
-    (getD (a .outlets .now) (a .place) 0) (3 * t .before .before .index-of2 .result) (t .trace .result)
+    (getD (a .outlets .now) (a .place) 0) (3 * cells t) (t .trace .result)
     (t .trace .last .1 .1 .1 .1 .1 .1 .1 .1 .0)
 searched t =
     let s = start t in
-    searched-within (s .pre .0) (s .pre .1 .0) (t .before .before .before .before .index-of .ensures .0) (own t)
+    searched-within (s .pre .0) (s .pre .1 .0) (t .before .before .split-number .ensures) (own t)
     (t .trace .ensures .searched)
 
 -- the working space is as long as it was, and long enough
 room : (t : tie.After-trace) → (length (t .trace .last .1 .1 .1 .1 .1 .1 .1 .1 .0) ≡ length (start t .args .work .now))
-    × (3 * t .before .before .index-of2 .result ≤ length (start t .args .work .now))
+    × (3 * cells t ≤ length (start t .args .work .now))
 room t = (t .trace .kept .1 .1 .1 .1 .1 .1 .1 .1 .0, omega (arith, own t, start t .pre .1 .1))
 
 list-starts-requires : tie.Need-list-starts-requires
@@ -110,8 +117,8 @@ returns c =
     let s = start t in
     let a = s .args in
     let k = room t in
-    let n = 3 * t .before .before .index-of2 .result in
-    let there = cells-there (s .pre .0) (s .pre .1 .0) (t .before .before .before .before .index-of .ensures .0) in
+    let n = 3 * cells t in
+    let there = cells-there (s .pre .0) (s .pre .1 .0) (t .before .before .split-number .ensures) in
     let only : Kept n (a .work .now) (t .trace .last .1 .1 .1 .1 .1 .1 .1 .1 .0)
     = record { same-length = k .0; rest = λ x h. t .trace .ensures .beyond x (omega (arith, h, own t, there)) } in
     record {
@@ -131,8 +138,9 @@ by-stack-spec =
     shared-slice-read-index-of-2
     index-of-requires-2
     mul-end
-    div-trace
-    rem-trace
+    mul-split-number
+    shared-slice-read-split-number
+    split-number-requires
     trace-requires
     list-starts-requires
     clear-requires

@@ -4,9 +4,10 @@ use mathlib.Core.Path.{_≡_, refl, _∙_}
 use Prim.Native.Nat.{_-_, _≤_}
 use native.Mathlib.Nat.{mod-le, div-le-self}
 use native.Mathlib.Omega.{arith}
-use lib.ListN.{length, take}
+use lib.ListN.{length, getD, take}
 use lib.Seq.{take-all}
 use borrow.Author.Needs.{needs}
+use Rattle.cells.proofs.Numbers.{is-row, is-col}
 use Rattle.spelling.specs.Format.{outletRecords}
 use Rattle.writing.specs.Puts.{Puts}
 use Rattle.writing.proofs.Puts.{puts-none, puts-then, outlets-next, outlets-land}
@@ -25,20 +26,14 @@ loop-holds : tie.Need-loop-holds Inv-loop μ-loop
 unfolding outletRecords
 loop-holds c = (search needs, refl, puts-none)
 
-mul-index-of : tie.Need-mul-index-of Inv-loop μ-loop
-mul-index-of c = search needs
+mul-split-number : tie.Need-mul-split-number Inv-loop μ-loop
+mul-split-number c = search needs
 
-shared-slice-read-index-of : tie.Need-shared-slice-read-index-of Inv-loop μ-loop
-shared-slice-read-index-of c = search needs
+shared-slice-read-split-number : tie.Need-shared-slice-read-split-number Inv-loop μ-loop
+shared-slice-read-split-number c = search needs
 
-index-of-requires : tie.Need-index-of-requires Inv-loop μ-loop
-index-of-requires c κs = search needs
-
-div-put-pair : tie.Need-div-put-pair Inv-loop μ-loop
-div-put-pair c = search needs
-
-rem-put-pair : tie.Need-rem-put-pair Inv-loop μ-loop
-rem-put-pair c = search needs
+split-number-requires : tie.Need-split-number-requires Inv-loop μ-loop
+split-number-requires c κs = search needs
 
 put-pair-requires : tie.Need-put-pair-requires Inv-loop μ-loop
 put-pair-requires c κs =
@@ -46,11 +41,12 @@ put-pair-requires c κs =
     let l = t .before .loop in
     let s = t .before .before .before .before in
     let a = s .args in
-    let o = c .before .index-of in
+    let o = c .before .split-number .ensures in
+    let n = getD (a .outlets .now) (l .k) 0 in
     let small = s .pre .2 (l .k) (t .loop-test .taken) in (
       omega (arith, outlets-land (a .cols) (l .k) (a .outlets .now) (l .inv .2) (l .inv .0), l .inv .1),
-      omega (arith, small, o .ensures .0, div-le-self (o .result) (a .cols)),
-      omega (arith, small, o .ensures .0, mod-le (o .result) (a .cols)),
+      omega (arith, small, is-row o, div-le-self n (a .cols)),
+      omega (arith, small, is-col o, mod-le n (a .cols)),
     )
 
 add-k : tie.Need-add-k Inv-loop μ-loop
@@ -64,11 +60,11 @@ loop-again c =
     let t = c .before .before .before .before .before .before in
     let l = t .before .loop in
     let a = t .before .before .before .before .args in
-    let o = c .before .before .before .before .index-of in
+    let o = c .before .before .before .before .split-number .ensures in
     let p = c .before .before .put-pair in (
       search needs,
       p .kept .0 ∙ l .inv .1,
-      rw (outlets-next (a .cols) (l .k) (o .result) (a .outlets .now) (t .loop-test .taken) (o .ensures .0))
+      rw (outlets-next (a .cols) (l .k) (a .outlets .now) (t .loop-test .taken) o)
           (puts-then (l .inv .2) (p .ensures)),
     )
 
@@ -88,11 +84,9 @@ put-outlets-spec =
     Inv-loop
     μ-loop
     loop-holds
-    mul-index-of
-    shared-slice-read-index-of
-    index-of-requires
-    div-put-pair
-    rem-put-pair
+    mul-split-number
+    shared-slice-read-split-number
+    split-number-requires
     put-pair-requires
     add-k
     loop-less

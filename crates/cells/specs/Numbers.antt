@@ -1,0 +1,9 @@
+-- The number of a cell.
+-- Assumes nothing.
+use mathlib.Core.Path.{_≡_}
+use Prim.Native.Nat.{ℕ, _+_, _*_, _<_}
+
+-- 01, The ground: row and column of the cell with a number, which is the row times the columns and the column
+pub record RowAndColumn (cols number row col : ℕ) : Type 0 where
+  pub is-number : row * cols + col ≡ number
+  pub col-in : col < cols

@@ -1,0 +1,42 @@
+// A cell by its row and column: the next one, and the one that a number names.
+use lists::index_of;
+ghost use Prim.Native.Nat.{_*_, _+_, _≤_, _<_};
+ghost use Rattle.cells.specs.Numbers.{RowAndColumn};
+
+pub struct Cell {
+    pub row: usize,
+    pub col: usize,
+}
+
+impl Cell {
+    // The next cell, row by row.
+    pub fn next(self, cols: usize) -> Cell
+        requires { ⌜ (self .row ≤ 4096) × (self .col < cols) × (cols ≤ 4096) ⌝ }
+        ensures { λ r. ⌜ RowAndColumn cols (self .row * cols + self .col + 1) (r .row) (r .col) ⌝ }
+    {
+        let right = self.col + 1;
+        if right < cols {
+            return Cell {
+                row: self.row,
+                col: right,
+            };
+        }
+        Cell {
+            row: self.row + 1,
+            col: 0,
+        }
+    }
+}
+
+// The cell that a number names, a number that a caller of the library gave: every other cell has its row and column
+// carried along.
+pub fn split_number(cols: usize, number: u32) -> Cell
+    requires { ⌜ 0 < cols ⌝ }
+    ensures { λ r. ⌜ RowAndColumn cols number (r .row) (r .col) ⌝ }
+{
+    let at = index_of(number);
+    Cell {
+        row: at / cols,
+        col: at % cols,
+    }
+}
