@@ -2,9 +2,11 @@
 -- Assumes nothing.
 use mathlib.Core.Path.{_≡_, refl, sym, ap, _∙_}
 use mathlib.Core.List.{List, [], _++_, append-assoc, append-nil}
-use Prim.Native.Nat.{ℕ, zero, suc, _+_, _/_, _%_}
+use Prim.Native.Nat.{ℕ, zero, suc, _+_}
 use native.Mathlib.Omega.{arith}
 use lib.ListN.{take, getD}
+use Rattle.cells.specs.Numbers.{RowAndColumn}
+use Rattle.cells.proofs.Numbers.{is-row, is-col}
 use Rattle.answers.specs.declared.Answer.the-variants.{Found, NoPlace, Refused}
 use Rattle.answers.specs.declared.Traced.{Traced}
 use Rattle.answers.specs.Entries.{Catchment, catchment}
@@ -18,13 +20,13 @@ use Rattle.report.specs.Desk.{answerLines, tracedLines, outletLines, out
 -- ---- one outlet
 
 -- its lines, where its tracing found paths
-pub found-lines : (cols place cell : ℕ) (t : Traced) (left : Lent) {straight diagonal paths cells : ℕ} {starts : List ℕ}
-    → t .answer ≡ Found straight diagonal paths → cells ≡ getD (left .subaccumulation) cell 0
-    → starts ≡ take paths (left .starts)
+pub found-lines : (cols place cell : ℕ) (t : Traced) (left : Lent) {straight diagonal paths row col cells : ℕ}
+    {starts : List ℕ} → t .answer ≡ Found straight diagonal paths → RowAndColumn cols cell row col
+    → cells ≡ getD (left .subaccumulation) cell 0 → starts ≡ take paths (left .starts)
     → outletLine (record {
       place = place + 1;
-      row = cell / cols;
-      col = cell % cols;
+      row = row;
+      col = col;
       cells = cells;
       straight = straight;
       diagonal = diagonal;
@@ -33,7 +35,8 @@ pub found-lines : (cols place cell : ℕ) (t : Traced) (left : Lent) {straight d
       dropped = t .dropped;
     }) ++ pathLines cols starts ≡ tracedLines cols place cell t left
 unfolding answerLines
-found-lines cols place cell t left is-found is-cells is-starts = rw (is-found, is-cells, is-starts)
+found-lines cols place cell t left is-found is-cell is-cells is-starts =
+    rw (is-found, is-row is-cell, is-col is-cell, is-cells, is-starts)
 
 -- and where it did not
 pub no-place-lines : (cols place cell : ℕ) (t : Traced) (left : Lent) {paths : ℕ} → t .answer ≡ NoPlace paths

@@ -8,6 +8,8 @@ use native.Mathlib.Numerals.{add-one}
 use native.Mathlib.Omega.{arith}
 use lib.ListN.{length, take, getD}
 use lib.Seq.{take-suc, take-all}
+use Rattle.cells.specs.Numbers.{RowAndColumn}
+use Rattle.cells.proofs.Numbers.{is-row, is-col}
 use Rattle.lines.specs.Line.{pathLine}
 use Rattle.report.specs.Desk.{pathLines}
 
@@ -28,11 +30,11 @@ after cols (x ∷ ss) s =
     ap (λ (l : List ℕ). pathLine (x / cols) (x % cols) ++ l) (after cols ss s)
     ∙ sym (append-assoc (pathLine (x / cols) (x % cols)) (pathLines cols ss) (pathLine (s / cols) (s % cols)))
 
-pub one-more : (cols : ℕ) (starts : List ℕ) (k : ℕ) → k < length starts
-    → pathLines cols (take k starts) ++ pathLine (getD starts k 0 / cols) (getD starts k 0 % cols)
-    ≡ pathLines cols (take (k + 1) starts)
-one-more cols starts k h =
-    sym (after cols (take k starts) (getD starts k 0))
+pub one-more : (cols : ℕ) (starts : List ℕ) (k : ℕ) {row col : ℕ} → k < length starts
+    → RowAndColumn cols (getD starts k 0) row col
+    → pathLines cols (take k starts) ++ pathLine row col ≡ pathLines cols (take (k + 1) starts)
+one-more cols starts k h cell =
+    rw (is-row cell, is-col cell) (sym (after cols (take k starts) (getD starts k 0)))
     ∙ sym (ap (λ (n : ℕ). pathLines cols (take n starts)) (add-one k) ∙ ap (pathLines cols) (take-suc starts k 0 h))
 
 pub no-starts : (cols : ℕ) (starts : List ℕ) → pathLines cols (take 0 starts) ≡ []

@@ -18,6 +18,7 @@ ghost use mathlib.Core.Path.{_≡_};
 ghost use Prim.Native.Nat.{_≤_, _<_};
 ghost use lib.ListN.{length, take, getD};
 ghost use Rattle.lists.specs.Slices.{zeros};
+ghost use Rattle.cells.specs.Numbers.{RowAndColumn};
 ghost use Rattle.answers.specs.Entries.{catchment};
 ghost use Rattle.answers.specs.Tracings.{lent};
 ghost use Rattle.lines.specs.Appending.{Appends, Holds, HoldsWhole};
@@ -132,6 +133,27 @@ fn value_at(list: &[u32], place: u32) -> u32
     0
 }
 
+// A cell by its row and column, as they are printed.
+struct Counted {
+    row: u32,
+    col: u32,
+}
+
+// The row and column of a cell whose number comes from the program and not from its caller: the rows before it are
+// counted off, of which a sheet has 63 at most.
+fn count_off(cols: u32, cell: u32) -> Counted
+    requires { ⌜ 0 < cols ⌝ }
+    ensures { λ r. ⌜ RowAndColumn cols cell (r .row) (r .col) ⌝ }
+{
+    let mut row: u32 = 0;
+    let mut col = cell;
+    while cols <= col {
+        col -= cols;
+        row += 1;
+    }
+    Counted { row, col }
+}
+
 // A line for each start, by its row and column.
 fn put_starts(text: &mut [u8], at: usize, cols: u32, starts: &[u32]) -> usize
     requires { ⌜ 0 < cols ⌝ }
@@ -140,8 +162,8 @@ fn put_starts(text: &mut [u8], at: usize, cols: u32, starts: &[u32]) -> usize
     let mut to = at;
     let mut k: usize = 0;
     while k < starts.len() {
-        let start = starts[k];
-        to = put_path(text, to, start / cols, start % cols);
+        let start = count_off(cols, starts[k]);
+        to = put_path(text, to, start.row, start.col);
         k += 1;
     }
     to
@@ -171,12 +193,11 @@ fn put_traced(
             paths,
         } => {
             let printed = place + 1;
-            let row = cell / cols;
-            let col = cell % cols;
+            let outlet = count_off(cols, cell);
             let line = OutletLine {
                 place: printed,
-                row,
-                col,
+                row: outlet.row,
+                col: outlet.col,
                 cells: value_at(subaccumulation, cell),
                 straight,
                 diagonal,

@@ -29,17 +29,14 @@ loop-holds c =
       refl,
     )
 
-mul-start : tie.Need-mul-start Inv-loop μ-loop
-mul-start c = search needs
+mul-count-off : tie.Need-mul-count-off Inv-loop μ-loop
+mul-count-off c = search needs
 
-shared-slice-read-start : tie.Need-shared-slice-read-start Inv-loop μ-loop
-shared-slice-read-start c = search needs
+shared-slice-read-count-off : tie.Need-shared-slice-read-count-off Inv-loop μ-loop
+shared-slice-read-count-off c = search needs
 
-div-put-path : tie.Need-div-put-path Inv-loop μ-loop
-div-put-path c = search needs
-
-rem-put-path : tie.Need-rem-put-path Inv-loop μ-loop
-rem-put-path c = search needs
+count-off-requires : tie.Need-count-off-requires Inv-loop μ-loop
+count-off-requires c κs = search needs
 
 put-path-requires : tie.Need-put-path-requires Inv-loop μ-loop
 put-path-requires c κs = search needs
@@ -53,11 +50,13 @@ loop-less c = search needs
 loop-again : tie.Need-loop-again Inv-loop μ-loop
 loop-again c =
     let p = c .before .before in
-    let i = p .before .before .before in
+    let n = p .before .before in
+    let i = n .before .before in
     let l = i .before .loop in
     let a = i .before .before .before .before .args in (
       omega (arith, i .loop-test .taken),
-      appends-as (one-more (a .cols) (a .starts .now) (l .k) (omega (arith, i .loop-test .taken)))
+      appends-as
+          (one-more (a .cols) (a .starts .now) (l .k) (omega (arith, i .loop-test .taken)) (n .count-off .ensures))
           (appends-both (l .inv .1) (p .put-path .ensures)),
       p .put-path .kept .0 ∙ l .inv .2,
     )
@@ -79,10 +78,9 @@ put-starts-spec =
     Inv-loop
     μ-loop
     loop-holds
-    mul-start
-    shared-slice-read-start
-    div-put-path
-    rem-put-path
+    mul-count-off
+    shared-slice-read-count-off
+    count-off-requires
     put-path-requires
     add-k
     loop-less

@@ -13,11 +13,8 @@ enum-known-answer c = search needs
 add-printed : tie.Need-add-printed
 add-printed c = search needs
 
-div-row : tie.Need-div-row
-div-row c = search needs
-
-rem-col : tie.Need-rem-col
-rem-col c = search needs
+count-off-requires : tie.Need-count-off-requires
+count-off-requires c κs = search needs
 
 value-at-requires : tie.Need-value-at-requires
 value-at-requires c κs = search needs
@@ -46,11 +43,12 @@ returns c =
     let fo = ps .before in
     let po = fo .before .before .before .before in
     let va = po .before .before in
-    let an = va .before .before in
+    let co = va .before in
+    let an = co .before .before in
     let a = an .before .before .before .before .before .args in
     appends-as
     (found-lines (a .cols) (a .place) (a .cell) (a .t) (lent (a .subaccumulation .now) (a .starts .now))
-    (an .answer .given .1) (va .value-at .ensures) (fo .first-of .ensures))
+    (an .answer .given .1) (co .count-off .ensures) (va .value-at .ensures) (fo .first-of .ensures))
     (appends-both (po .put-outlet .ensures) (ps .put-starts .ensures))
 
 returns-2 : tie.Need-returns-2
@@ -75,8 +73,7 @@ put-traced-spec =
     (tie.spec
     enum-known-answer
     add-printed
-    div-row
-    rem-col
+    count-off-requires
     value-at-requires
     put-outlet-requires
     first-of-requires
