@@ -28,8 +28,8 @@ impl Cell {
     }
 }
 
-// The cell that a number names, a number that a caller of the library gave: every other cell has its row and column
-// carried along. Nothing else divides by the column count, and .ci/divisions has the list of those that may call this.
+// The cell that a number names, where a caller of the library gave the number. Nothing else divides by the column count;
+// .ci/divisions has the list of those that may call this.
 pub fn split_number(cols: usize, number: u32) -> Cell
     requires { ⌜ 0 < cols ⌝ }
     ensures { λ r. ⌜ RowAndColumn cols number (r .row) (r .col) ⌝ }
