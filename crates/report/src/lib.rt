@@ -3,6 +3,7 @@ use accumulation::accumulate;
 use answers::Answer;
 use answers::Traced;
 use answers::in_numbers;
+use cells::count_off;
 use lines::OutletLine;
 use lines::put_catchment;
 use lines::put_outlet;
@@ -18,7 +19,6 @@ ghost use mathlib.Core.Path.{_≡_};
 ghost use Prim.Native.Nat.{_≤_, _<_};
 ghost use lib.ListN.{length, take, getD};
 ghost use Rattle.lists.specs.Slices.{zeros};
-ghost use Rattle.cells.specs.Numbers.{RowAndColumn};
 ghost use Rattle.answers.specs.Entries.{catchment};
 ghost use Rattle.answers.specs.Tracings.{lent};
 ghost use Rattle.lines.specs.Appending.{Appends, Holds, HoldsWhole};
@@ -131,27 +131,6 @@ fn value_at(list: &[u32], place: u32) -> u32
         return list[i];
     }
     0
-}
-
-// A cell by its row and column, as they are printed.
-struct Counted {
-    row: u32,
-    col: u32,
-}
-
-// The row and column of a cell whose number comes from the program and not from its caller: the rows before it are
-// counted off, of which a sheet has 63 at most.
-fn count_off(cols: u32, cell: u32) -> Counted
-    requires { ⌜ 0 < cols ⌝ }
-    ensures { λ r. ⌜ RowAndColumn cols cell (r .row) (r .col) ⌝ }
-{
-    let mut row: u32 = 0;
-    let mut col = cell;
-    while cols <= col {
-        col -= cols;
-        row += 1;
-    }
-    Counted { row, col }
 }
 
 // A line for each start, by its row and column.

@@ -1,17 +1,17 @@
--- `report::count_off` meets its contract. The invariant: the rows counted off and what is left make up the number.
+-- `cells::count_off` meets its contract. The invariant: the rows counted off and what is left make up the number.
 -- Assumes nothing.
 use mathlib.Core.Path.{_≡_}
 use Prim.Native.Nat.{_+_, _*_, _≤_}
 use native.Mathlib.Omega.{arith}
 use borrow.Author.Needs.{needs}
-use Rattle.report.proofs.count_off.Statement.{statement}
-use Rattle.report.proofs.count_off.Tie as tie
+use Rattle.cells.proofs.count_off.Statement.{statement}
+use Rattle.cells.proofs.count_off.Tie as tie
 
 abbrev Inv-loop : tie.InvT-loop
-Inv-loop cols cell row₀ col₀ row col = (row * cols + col ≡ cell) × (row + col ≤ cell)
+Inv-loop cols number row₀ col₀ row col = (row * cols + col ≡ number) × (row + col ≤ number)
 
 abbrev μ-loop : tie.MeasureT-loop
-μ-loop cols cell row₀ col₀ row col = col
+μ-loop cols number row₀ col₀ row col = col
 
 loop-holds : tie.Need-loop-holds Inv-loop μ-loop
 loop-holds c = (omega arith, omega arith)
