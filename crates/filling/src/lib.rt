@@ -31,15 +31,16 @@ fn flag_at(rows: usize, cols: usize, codes: &[u8], outlets: &[u32], words: &mut 
         (place + 1) ⌝ }
     ensures keeps { λ _. ⌜ Kept (rows * cols) (now (words .entry)) (now (words .exit)) ⌝ }
 {
-    let at = index_of(outlets[place]);
+    let outlet = outlets[place];
+    let at = index_of(outlet);
     let own = words[at];
     if own >= FLAG {
         return;
     }
     words[at] = own + FLAG;
     let steps = offsets(cols);
-    let outlet = split_number(cols, outlets[place]);
-    match downstream_of(rows, cols, codes, &steps, outlet.row, outlet.col, at) {
+    let cell = split_number(cols, outlet);
+    match downstream_of(rows, cols, codes, &steps, cell.row, cell.col, at) {
         Downstream::End => return,
         Downstream::To {
             row: _,

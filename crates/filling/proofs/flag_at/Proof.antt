@@ -23,11 +23,11 @@ outlet c =
       flagged = s .pre .1;
     }
 
-mul-index-of : tie.Need-mul-index-of
-mul-index-of c = search needs
+mul-outlet : tie.Need-mul-outlet
+mul-outlet c = search needs
 
-shared-slice-read-index-of : tie.Need-shared-slice-read-index-of
-shared-slice-read-index-of c = search needs
+shared-slice-read-outlet : tie.Need-shared-slice-read-outlet
+shared-slice-read-outlet c = search needs
 
 index-of-requires : tie.Need-index-of-requires
 index-of-requires c κs = search needs
@@ -53,20 +53,14 @@ slice-write-words c = o-room (outlet (c .before .before))
 offsets-requires : tie.Need-offsets-requires
 offsets-requires c κs = search needs
 
-mul-split-number : tie.Need-mul-split-number
-mul-split-number c = search needs
-
-shared-slice-read-split-number : tie.Need-shared-slice-read-split-number
-shared-slice-read-split-number c = search needs
-
 split-number-requires : tie.Need-split-number-requires
 split-number-requires c κs = search needs
 
 downstream-of-requires : tie.Need-downstream-of-requires
 downstream-of-requires c κs =
-    let o = outlet (c .before .before .before .before .before .before) in
+    let o = outlet (c .before .before .before .before .before) in
     numbered (o .fillable .grid) (rw (o .is-outlet) (c .before .split-number .ensures)) (o-inside o)
-    (c .before .before .before .offsets .ensures)
+    (c .before .before .offsets .ensures)
 
 enum-told : tie.Need-enum-told
 enum-told c = search needs
@@ -76,8 +70,8 @@ same-length c = search needs
 
 returns-2 : tie.Need-returns-2
 returns-2 c =
-    let o = outlet (c .before .before .before .before .before .before .before .before .before) in (
-      at-end o (c .before .before .before .before .before .before .before .if1 .left)
+    let o = outlet (c .before .before .before .before .before .before .before .before) in (
+      at-end o (c .before .before .before .before .before .before .if1 .left)
           (c .before .before .downstream-of .ensures .ends-here (c .enum-told .given .1)),
       kept-set _ _ (o-inside o),
     )
@@ -87,7 +81,7 @@ enum-known-to c = search needs
 
 -- where the outlet was not yet flagged, seen from where the cell that it flows to is known; and that cell
 abbrev unflagged : tie.After-known-told → tie.Else1
-unflagged c = c .before .before .before .before .before .before .before .before
+unflagged c = c .before .before .before .before .before .before .before
 
 to : (c : tie.After-known-told) → let i = unflagged c .before .before in
     let a = i .before .before .before .before .before .args in
@@ -131,8 +125,8 @@ pub flag-at-spec : {M : Type 1} → statement M
 flag-at-spec =
     tie.close
     (tie.spec
-    mul-index-of
-    shared-slice-read-index-of
+    mul-outlet
+    shared-slice-read-outlet
     index-of-requires
     mul-own
     slice-read-own
@@ -141,8 +135,6 @@ flag-at-spec =
     mul-words
     slice-write-words
     offsets-requires
-    mul-split-number
-    shared-slice-read-split-number
     split-number-requires
     downstream-of-requires
     enum-told
