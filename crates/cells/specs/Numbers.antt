@@ -3,7 +3,7 @@
 use mathlib.Core.Path.{_≡_}
 use Prim.Native.Nat.{ℕ, _+_, _*_, _<_}
 
--- 01, The ground: row and column of the cell with a number, which is the row times the columns and the column
+-- 01, The ground: row and column of the cell with a number, of a grid with so many columns
 pub record RowAndColumn (cols number row col : ℕ) : Type 0 where
   pub is-number : row * cols + col ≡ number
   pub col-in : col < cols

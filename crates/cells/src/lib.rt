@@ -3,6 +3,7 @@ use lists::index_of;
 ghost use Prim.Native.Nat.{_*_, _+_, _≤_, _<_};
 ghost use Rattle.cells.specs.Numbers.{RowAndColumn};
 
+// A cell of a grid.
 pub struct Cell {
     pub row: usize,
     pub col: usize,
