@@ -29,8 +29,8 @@ impl Cell {
     }
 }
 
-// The cell that a number names, where a caller of the library gave the number. Nothing else divides by the column count;
-// .ci/divisions has the list of those that may call this.
+// The cell that a number names, where a caller of the library gave the number. Nothing else divides by the column
+// count; .ci/divisions has the list of those that may call this.
 pub fn split_number(cols: usize, number: u32) -> Cell
     requires { ⌜ 0 < cols ⌝ }
     ensures { λ r. ⌜ RowAndColumn cols number (r .row) (r .col) ⌝ }
@@ -48,8 +48,8 @@ pub struct SheetCell {
     pub col: u32,
 }
 
-// The cell of a sheet that a number names, where the number comes from the library itself: the rows above it are counted
-// off, of which a sheet has 63 at most.
+// The cell of a sheet that a number names, where the number comes from the library itself: the rows above it are
+// counted off, of which a sheet has 63 at most.
 pub fn count_off(cols: u32, number: u32) -> SheetCell
     requires { ⌜ 0 < cols ⌝ }
     ensures { λ r. ⌜ RowAndColumn cols number (r .row) (r .col) ⌝ }
