@@ -9,6 +9,10 @@ static const uint8_t BACK[8] = {16, 32, 64, 128, 1, 2, 4, 8};
 
 static const double ROOT = 1.41421356237309504880;
 
+/* ground that drains nowhere, in every table */
+enum { POND = 255 };
+
+/* of a code that has a direction */
 static int way(uint8_t code) { return __builtin_ctz(code); }
 
 static int inside(size_t rows, size_t cols, long row, long col) {
@@ -17,7 +21,7 @@ static int inside(size_t rows, size_t cols, long row, long col) {
 
 static int codes_good(size_t cells, const uint8_t *codes) {
     uint8_t bad = 0;
-    for (size_t i = 0; i < cells; i++) bad |= codes[i] & (codes[i] - 1);
+    for (size_t i = 0; i < cells; i++) bad |= codes[i] == POND ? 0 : codes[i] & (codes[i] - 1);
     return bad == 0;
 }
 
@@ -67,6 +71,7 @@ uint32_t plain_look_around(size_t rows, size_t cols, const uint8_t *codes, uint3
                 uint32_t sum = known_sum(mask, to, accumulation + at);
                 if (sum == 0) break;
                 accumulation[at] = sum;
+                if (codes[at] == POND) break;
                 int k = way(codes[at]);
                 r += DOWN[k];
                 c += RIGHT[k];
@@ -95,8 +100,8 @@ static inline uint32_t count_and_pass(size_t rows, size_t cols, const uint8_t *c
             size_t at = row * cols + col;
             if (codes[at] == 0) continue;
             words[at]++;
+            if (codes[at] == POND || (marks && marks[at])) continue;
             int k = way(codes[at]);
-            if (marks && marks[at]) continue;
             if (!inside(rows, cols, (long)row + DOWN[k], (long)col + RIGHT[k])) continue;
             size_t below = at + (size_t)to[k];
             if (codes[below] != 0) words[below] += INFLOW;
@@ -107,7 +112,7 @@ static inline uint32_t count_and_pass(size_t rows, size_t cols, const uint8_t *c
             if (words[at] != 1) continue;
             long r = (long)row, c = (long)col;
             uint32_t word = 1;
-            while (word < INFLOW && !(marks && marks[at])) {
+            while (word < INFLOW && codes[at] != POND && !(marks && marks[at])) {
                 int k = way(codes[at]);
                 r += DOWN[k];
                 c += RIGHT[k];
@@ -149,7 +154,7 @@ uint32_t plain_equation(size_t rows, size_t cols, const uint8_t *codes, const ui
     return 0;
 }
 
-/* The codes of E, SE, S, SW, W, NW, N, NE in each table; null is 0. */
+/* The codes of E, SE, S, SW, W, NW, N, NE in each table; null is 0 and a pond POND. */
 static const uint8_t TABLES[3][8] = {
     {1, 2, 4, 8, 16, 32, 64, 128},
     {8, 7, 6, 5, 4, 3, 2, 1},
@@ -157,11 +162,12 @@ static const uint8_t TABLES[3][8] = {
 };
 
 /* what the look-up has for bytes that are no codes; itself a code of no table */
-enum { NO_CODE = 255 };
+enum { NO_CODE = 9 };
 
 static void look_up(uint32_t from, uint32_t to, uint8_t becomes[256]) {
     memset(becomes, NO_CODE, 256);
     becomes[0] = 0;
+    becomes[POND] = POND;
     for (int k = 0; k < 8; k++) becomes[TABLES[from - 1][k]] = TABLES[to - 1][k];
 }
 
@@ -317,6 +323,7 @@ size_t plain_draw(size_t rows, size_t cols, const uint8_t *codes, uint32_t outle
         if (codes[at] == 0) return 0;
         places[n++] = (uint32_t)at;
         if (at == outlet) return n;
+        if (codes[at] == POND) return 0;
         int k = way(codes[at]);
         r += DOWN[k];
         c += RIGHT[k];

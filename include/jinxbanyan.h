@@ -7,13 +7,16 @@
 
    10 rows or columns not 1 to 4,096       18 the place is beyond the list of outlets
    11 a lent grid too short                19 more than 4,096 cells, by recursion
-   12 a code not among the nine            20 the working space too small
+   12 a code not among the ten             20 the working space too small
    13 a ring                               21 the list too short for the longest paths
    14 the accumulation does not agree      22 the start is not in the outlet's subwatershed
    15 no outlet, or more than 256          23 the lent places too few
    16 an outlet beyond the grid or null    24 a table number not 1 to 3
    17 an outlet twice
-   1 to 9 are a sheet's: see jb_read_sheet. */
+   1 to 9 are a sheet's: see jb_read_sheet.
+
+   The ten codes of a cell are 0 (null, no ground), 255 (a pond: ground that drains nowhere; a walk ends at it) and those of
+   the eight directions, of which jb_convert has a table. */
 #ifndef JINXBANYAN_H
 #define JINXBANYAN_H
 
@@ -47,14 +50,14 @@ uint32_t jb_flow_lengths(size_t rows, size_t cols, const uint8_t *codes, size_t 
                          size_t up_straight_count, uint32_t *up_diagonal, size_t up_diagonal_count);
 
 /* 24, 10, 11, 12. Writes the codes of a grid as codes of another table in the first rows x cols places of converted: each
-   cell keeps its direction, or stays null. from is the number of the table that codes are of, to that of the table that
-   converted gets; they may be the same. 24 tells that one of the two is not 1 to 3, 12 that a code is not in table from.
-   Every refusal leaves converted as it was. The two grids must not overlap, so none is converted in place.
+   cell keeps its direction, or stays null or a pond. from is the number of the table that codes are of, to that of the
+   table that converted gets; they may be the same. 24 tells that one of the two is not 1 to 3, 12 that a code is not in
+   table from. Every refusal leaves converted as it was. The two grids must not overlap, so none is converted in place.
 
-   table                                    E   SE    S   SW    W   NW    N   NE  null
-   1 ArcGIS: powers of two, clockwise       1    2    4    8   16   32   64  128     0
-   2 GRASS: counter-clockwise from NE       8    7    6    5    4    3    2    1     0
-   3 RichDEM and PFA: clockwise from W      5    6    7    8    1    2    3    4     0
+   table                                    E   SE    S   SW    W   NW    N   NE  null  pond
+   1 ArcGIS: powers of two, clockwise       1    2    4    8   16   32   64  128     0   255
+   2 GRASS: counter-clockwise from NE       8    7    6    5    4    3    2    1     0   255
+   3 RichDEM and PFA: clockwise from W      5    6    7    8    1    2    3    4     0   255
 
    Every other function takes and writes codes of table 1, and so are those of a sheet. */
 uint32_t jb_convert(uint32_t from, uint32_t to, size_t rows, size_t cols, const uint8_t *codes, size_t codes_count,
@@ -85,7 +88,7 @@ uint32_t jb_draw(size_t rows, size_t cols, const uint8_t *codes, size_t codes_co
                  uint32_t *path, size_t path_count, uint32_t drawn[1]);
 
 /* 1 no whole header; 2 rows or columns not 1 to 64; 3 fewer code places than cells, or fewer outlet places than 256; 4 a row
-   record not whole or not in turn; 5 a code not among the nine; 6 no whole outlet or end record; 7 an outlet outside the
+   record not whole or not in turn; 5 a code not among the ten; 6 no whole outlet or end record; 7 an outlet outside the
    grid; 8 more than 256 outlets; 9 bytes after the end. shape: rows, columns, outlets, all 0 on refusal. */
 uint32_t jb_read_sheet(const uint8_t *file, size_t file_count, uint8_t *codes, size_t codes_count, uint32_t *outlets,
                        size_t outlets_count, uint32_t shape[3]);

@@ -107,15 +107,16 @@ pub fn flow_lengths(
 }
 
 /// Checks 24, 10, 11, 12. Leaves the codes of a grid as codes of another table in the first
-/// rows × cols places of `converted`: each cell keeps its direction, or stays null. `from` is the
-/// number of the table that the codes are of, `to` that of the table that `converted` gets; they may
-/// be the same. 24 tells that one of the two is not 1 to 3, 12 that a code is not in table `from`.
+/// rows × cols places of `converted`: each cell keeps its direction, or stays null or a pond. `from`
+/// is the number of the table that the codes are of, `to` that of the table that `converted` gets;
+/// they may be the same. 24 tells that one of the two is not 1 to 3, 12 that a code is not in table
+/// `from`.
 ///
-/// | table | E | SE | S | SW | W | NW | N | NE | null |
-/// |---|---|---|---|---|---|---|---|---|---|
-/// | 1 ArcGIS | 1 | 2 | 4 | 8 | 16 | 32 | 64 | 128 | 0 |
-/// | 2 GRASS | 8 | 7 | 6 | 5 | 4 | 3 | 2 | 1 | 0 |
-/// | 3 RichDEM and PFA | 5 | 6 | 7 | 8 | 1 | 2 | 3 | 4 | 0 |
+/// | table | E | SE | S | SW | W | NW | N | NE | null | pond |
+/// |---|---|---|---|---|---|---|---|---|---|---|
+/// | 1 ArcGIS | 1 | 2 | 4 | 8 | 16 | 32 | 64 | 128 | 0 | 255 |
+/// | 2 GRASS | 8 | 7 | 6 | 5 | 4 | 3 | 2 | 1 | 0 | 255 |
+/// | 3 RichDEM and PFA | 5 | 6 | 7 | 8 | 1 | 2 | 3 | 4 | 0 | 255 |
 ///
 /// Every other function takes and leaves codes of table 1, and so are those of a sheet.
 #[inline]

@@ -21,16 +21,18 @@ pub record Told : Type 0 where
 abbrev pub told : Conversion → Told
 told c = record { number = convertNumber c lent; leaves = convertLeaves c lent }
 
--- each call fails the check of its number and every later one; the last passes all
+-- each call fails the check of its number and every later one; the last three pass all, one with a pond and null
 abbrev pub calls : List Conversion
 calls = conversion 4 1 0 1 [] ∷ conversion 1 0 0 1 [] ∷ conversion 2 1 0 1 [] ∷ conversion 2 1 1 3 (0 ∷ 16 ∷ [])
-    ∷ conversion 2 1 1 3 (0 ∷ 8 ∷ 16 ∷ []) ∷ conversion 2 1 1 2 (0 ∷ 8 ∷ 16 ∷ []) ∷ conversion 1 3 1 2 (16 ∷ 128 ∷ []) ∷ []
+    ∷ conversion 2 1 1 3 (0 ∷ 8 ∷ 16 ∷ []) ∷ conversion 2 1 1 2 (0 ∷ 8 ∷ 16 ∷ []) ∷ conversion 1 3 1 2 (16 ∷ 128 ∷ [])
+    ∷ conversion 2 3 1 3 (255 ∷ 0 ∷ 8 ∷ []) ∷ []
 
 abbrev pub refusal : ℕ → Told
 refusal number = record { number = number; leaves = lent }
 
 pub conversions : map told calls ≡ refusal 24 ∷ refusal 24 ∷ refusal 10 ∷ refusal 11 ∷ refusal 12
-    ∷ record { number = 0; leaves = 0 ∷ 1 ∷ 9 ∷ [] } ∷ record { number = 0; leaves = 1 ∷ 4 ∷ 9 ∷ [] } ∷ []
+    ∷ record { number = 0; leaves = 0 ∷ 1 ∷ 9 ∷ [] } ∷ record { number = 0; leaves = 1 ∷ 4 ∷ 9 ∷ [] }
+    ∷ record { number = 0; leaves = 255 ∷ 0 ∷ 5 ∷ [] } ∷ []
 unfolding overlaid dirOf isCode recoded convertedCodes firstFailed check10 check11 check12 check24 convertNumber
     convertLeaves
 conversions = refl

@@ -1,8 +1,9 @@
--- WHAT AN ACCEPTED CONVERSION COMES TO: directions, null and flow are kept, and every way through the tables is the same.
+-- WHAT AN ACCEPTED CONVERSION COMES TO: directions, null, ponds and flow are kept, and every way through the tables is
+-- the same.
 -- Assumes nothing.
 use mathlib.Core.Path.{_≡_, refl, sym, ap, _∙_}
 use mathlib.Core.Bool.{Bool, true, not, cond, _&&_}
-use mathlib.Core.Logic.{inl}
+use mathlib.Core.Logic.{inl, inr}
 use mathlib.Core.List.{List, [], _∷_}
 use mathlib.Core.Option.{Option, none, some}
 use Prim.Native.Nat.{ℕ, _≤_, _<_}
@@ -12,15 +13,16 @@ use lib.ListN.{length, getD, take}
 use lib.Seq.{length-take-le, getD-take, ext-getD}
 use lib.Dec.{eqb, leb}
 use borrow.Author.Tests.{leb-true}
+use Rattle.lists.specs.Lists.{In}
 use Rattle.lists.specs.Slices.{overlaid}
 use Rattle.lists.proofs.Lists.{and-both, all-below, below-all}
 use Rattle.lists.proofs.Overlaid.{overlaid-length, overlaid-at}
 use Rattle.ground.specs.Compass.{Dir}
-use Rattle.ground.specs.Tables.{Table, tableOf, dirOf, isCode}
-use Rattle.ground.specs.Grid.{Grid, gridIn, cellCount, codeAt, ground, neighbour, flow, onto, next}
+use Rattle.ground.specs.Tables.{Table, pond, undirected, tableOf, dirOf, isCode}
+use Rattle.ground.specs.Grid.{Grid, gridIn, cellCount, codeAt, ground, isPond, neighbour, flow, onto, next}
 use Rattle.ground.specs.Converting.{recoded, convertedCodes}
 use Rattle.ground.proofs.Cells.{code-inside, code-outside, next-along, next-none}
-use Rattle.ground.proofs.Converting.{undirected-code, recoded-none, recoded-dir-of, recoded-null, recoded-code}
+use Rattle.ground.proofs.Converting.{undirected-code, recoded-none, recoded-dir-of, recoded-kept, recoded-code}
 use Rattle.ground.proofs.Converting.{recoded-on, recoded-same, converted-length, converted-at}
 use Rattle.answers.specs.Checks.{check10, check11, check12, check24}
 use Rattle.answers.specs.Entries.{gridChecks}
@@ -56,8 +58,14 @@ module _ (g : Grid) (to : Table) (new : List ℕ) (has-codes : cellCount g ≤ l
   same-direction : (x : ℕ) → flow h x ≡ flow g x
   same-direction x = ap (dirOf to) (code-is x) ∙ recoded-dir-of (g .table) to (codeAt g x) (is-code x)
 
+  kept : (x u : ℕ) → In u undirected → eqb (codeAt h x) u ≡ eqb (codeAt g x) u
+  kept x u i = ap (λ (c : ℕ). eqb c u) (code-is x) ∙ recoded-kept (g .table) to (codeAt g x) (is-code x) u i
+
   same-ground : (x : ℕ) → ground h x ≡ ground g x
-  same-ground x = ap not (ap (λ (c : ℕ). eqb c 0) (code-is x) ∙ recoded-null (g .table) to (codeAt g x) (is-code x))
+  same-ground x = ap not (kept x 0 (inl refl))
+
+  same-ponds : (x : ℕ) → isPond h x ≡ isPond g x
+  same-ponds x = kept x pond (inr (inl refl))
 
   onto-same : (d : Dir) (o : Option ℕ) → onto h d o ≡ onto g d o
   onto-same d none = refl
@@ -91,6 +99,7 @@ module _ (g : Grid) (to : Table) (new : List ℕ) (has-codes : cellCount g ≤ l
   converted = record {
     same-direction = same-direction;
     same-ground = same-ground;
+    same-ponds = same-ponds;
     same-next = same-next;
     passes-12 = below-all (λ x. isCode to (getD new x 0)) (cellCount g)
         (λ x i. ap (isCode to) (same x i) ∙ recoded-code (g .table) to (getD (g .codes) x 0) (are-codes x i));

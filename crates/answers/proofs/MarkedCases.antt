@@ -1,4 +1,4 @@
--- M1 TO M11 and the grids that catch mistakes, all by one computation.
+-- M1 TO M11, the grids that catch mistakes and ponds, all by one computation.
 -- Assumes nothing.
 use mathlib.Core.Path.{_≡_, refl}
 use mathlib.Core.List.{map}
@@ -10,6 +10,7 @@ use Rattle.ground.specs.Walk.{ringFree}
 use Rattle.ground.specs.Accumulation.{balance, agrees, subaccumulation}
 use Rattle.ground.specs.Subwatershed.{belongs, inSubwatershed, walked}
 use Rattle.ground.specs.Forest.{forest}
+use Rattle.ground.specs.FlowLengths.{longerOf, upstreamLength, arrival, flowLengths}
 use Rattle.search.specs.Tracing.{tracingBy}
 use Rattle.answers.specs.Checks.{firstFailed, check10, check11, check12, check13, check14, check15}
 use Rattle.answers.specs.Checks.{check16, check17, check18, check19, check20, check21, check22, check23}
@@ -19,6 +20,7 @@ use Rattle.answers.specs.Entries.{subaccumulateLeaves}
 use Rattle.answers.specs.Answers.{tracedWith}
 use Rattle.answers.specs.Tracings.{recursionNumber, stackNumber, leavesSubaccumulation, leavesStarts, leavesWork}
 use Rattle.answers.specs.Drawing.{drawNumber, drawLeaves, drawnPart}
+use Rattle.answers.specs.FlowLengths.{flowLengthsNumber, lengthsOver, flowLengthsLeaves}
 use Rattle.answers.specs.MarkedRows.{worked}
 use Rattle.answers.specs.Marked.{marks}
 
@@ -27,5 +29,6 @@ unfolding compared ruled signOf isShorter sumOf dirOf codeAt neighbour next infl
     agrees subaccumulation belongs inSubwatershed walked forest tracingBy firstFailed isCode check10 check11 check12
     check13 check14 check15 check16 check17 check18 check19 check20 check21 check22 check23 overlaid accumulateNumber
     accumulateLeaves checkNumber subaccumulateNumber subaccumulateLeaves tracedWith recursionNumber stackNumber
-    leavesSubaccumulation leavesStarts leavesWork drawNumber drawLeaves drawnPart
+    leavesSubaccumulation leavesStarts leavesWork drawNumber drawLeaves drawnPart longerOf upstreamLength arrival
+    flowLengths flowLengthsNumber lengthsOver flowLengthsLeaves
 marked = refl

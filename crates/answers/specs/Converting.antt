@@ -8,7 +8,7 @@ use lib.ListN.{length, take}
 use lib.Dec.{eqb}
 use Rattle.lists.specs.Slices.{overlaid}
 use Rattle.ground.specs.Tables.{Table, tableOf}
-use Rattle.ground.specs.Grid.{Grid, gridIn, cellCount, ground, flow, next}
+use Rattle.ground.specs.Grid.{Grid, gridIn, cellCount, ground, isPond, flow, next}
 use Rattle.ground.specs.Converting.{convertedCodes}
 use Rattle.answers.specs.Checks.{firstFailed, check12, check24}
 use Rattle.answers.specs.Entries.{gridChecks}
@@ -46,9 +46,10 @@ target c new = gridIn (tableOf (c .to)) (c .rows) (c .cols) new
 
 -- WHAT AN ACCEPTED CALL COMES TO: the grid h converted from g
 pub record Converted (g h : Grid) : Type 0 where
-  -- each cell keeps its direction, and null
+  -- each cell keeps its direction, or stays null or a pond
   pub same-direction : (x : ℕ) → flow h x ≡ flow g x
   pub same-ground : (x : ℕ) → ground h x ≡ ground g x
+  pub same-ponds : (x : ℕ) → isPond h x ≡ isPond g x
   -- and flows where it flowed
   pub same-next : (x : ℕ) → next h x ≡ next g x
   -- 12 is passed in the new table

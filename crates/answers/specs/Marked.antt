@@ -1,4 +1,4 @@
--- The marked cases and the grids that catch mistakes, as one table of calls.
+-- The marked cases, the grids that catch mistakes and ponds, as one table of calls.
 -- Assumes nothing.
 use mathlib.Core.Bool.{true}
 use mathlib.Core.List.{List, [], _∷_, _++_}
@@ -7,9 +7,10 @@ use lib.ListN.{replicate}
 use Rattle.lengths.specs.declared.Order.the-variants.{Shorter, Longer}
 use Rattle.lengths.specs.Rule.{counts}
 use Rattle.answers.specs.Entries.{Catchment, catchment}
+use Rattle.answers.specs.FlowLengths.{lengthGrids}
 use Rattle.answers.specs.MarkedRows.{nines, found, noPlace, refused, stack, wiped, ways}
 use Rattle.answers.specs.MarkedRows.{Mark, compares, accumulates, checks, subaccumulates, traces, calls, draws}
-use Rattle.answers.specs.MarkedRows.{eachWay, accumulated}
+use Rattle.answers.specs.MarkedRows.{measures, eachWay, accumulated}
 
 -- ---- M1 to M11
 
@@ -135,7 +136,7 @@ refusedCalls =
     ∷ accumulates 1 3 (3 ∷ 3 ∷ []) (nines 4) 11 (nines 4)
     ∷ accumulates 1 3 (3 ∷ 3 ∷ 3 ∷ []) (nines 2) 11 (nines 2)
     ∷ accumulates 1 3 (1 ∷ 3 ∷ 16 ∷ []) (nines 4) 12 (nines 4)
-    ∷ accumulates 1 3 (1 ∷ 255 ∷ 16 ∷ []) (nines 4) 12 (nines 4)
+    ∷ accumulates 1 3 (1 ∷ 254 ∷ 16 ∷ []) (nines 4) 12 (nines 4)
     ∷ accumulates 1 3 (1 ∷ 4 ∷ 16 ∷ 3 ∷ []) (nines 3) 0 (1 ∷ 3 ∷ 1 ∷ [])
     -- the check of an accumulation: agreeing, on a ring, a null cell that is not 0
     ∷ checks 1 3 codes2 (1 ∷ 3 ∷ 1 ∷ 7 ∷ []) 0
@@ -164,6 +165,49 @@ drawings =
     ∷ draws ground3 0 3 (nines 2) 23 (nines 2) []
     ∷ []
 
+-- ---- ponds
+
+-- a pond with eight inflows, as outlet
+abbrev pub pondOutlet : Catchment
+pondOutlet = accumulated 3 3 (2 ∷ 4 ∷ 8 ∷ 1 ∷ 255 ∷ 16 ∷ 128 ∷ 64 ∷ 32 ∷ []) (4 ∷ [])
+
+-- the same pond beside a column that flows north, whose last cell is the outlet
+abbrev pub pondBeside : Catchment
+pondBeside = accumulated 3 4 (2 ∷ 4 ∷ 8 ∷ 64 ∷ 1 ∷ 255 ∷ 16 ∷ 64 ∷ 128 ∷ 64 ∷ 32 ∷ 64 ∷ []) (3 ∷ [])
+
+abbrev pub ponds : List Mark
+ponds =
+    -- alone: it counts itself, and is a path of length 0
+    accumulates 1 1 (255 ∷ []) (nines 2) 0 (1 ∷ 9 ∷ [])
+    ∷ checks 1 1 (255 ∷ []) (0 ∷ []) 14
+    ∷ traces (accumulated 1 1 (255 ∷ []) (0 ∷ [])) 0 (1 ∷ 9 ∷ []) (ways 0 0 1 1 0 1 (0 ∷ 9 ∷ 9 ∷ []) ∷ [])
+    -- below a pond: neither flows into the other
+    ∷ checks 3 1 (4 ∷ 255 ∷ 255 ∷ []) (1 ∷ 2 ∷ 1 ∷ []) 0
+    ∷ checks 3 1 (4 ∷ 255 ∷ 255 ∷ []) (1 ∷ 2 ∷ 3 ∷ []) 14
+    ∷ traces (accumulated 3 1 (4 ∷ 255 ∷ 255 ∷ []) (2 ∷ 1 ∷ [])) 0 (1 ∷ 2 ∷ 1 ∷ 9 ∷ [])
+    (ways 0 0 1 1 0 1 (2 ∷ 9 ∷ 9 ∷ []) ∷ ways 1 0 1 2 0 2 (0 ∷ 9 ∷ 9 ∷ []) ∷ [])
+    -- at the border
+    ∷ traces (accumulated 1 3 (255 ∷ 16 ∷ 16 ∷ []) (0 ∷ [])) 0 (3 ∷ 2 ∷ 1 ∷ 9 ∷ [])
+    (ways 2 0 1 3 0 3 (2 ∷ 9 ∷ 9 ∷ []) ∷ [])
+    -- next to null: one walk ends at the pond, the other before the null cell
+    ∷ traces (accumulated 1 4 (1 ∷ 255 ∷ 0 ∷ 16 ∷ []) (1 ∷ 3 ∷ [])) 0 (1 ∷ 2 ∷ 0 ∷ 1 ∷ 9 ∷ [])
+    (ways 1 0 1 2 0 2 (0 ∷ 9 ∷ 9 ∷ []) ∷ ways 0 0 1 1 0 1 (3 ∷ 9 ∷ 9 ∷ []) ∷ [])
+    -- amid eight inflows: four paths end at it
+    ∷ measures pondOutlet 0 (lengthGrids
+    (0 ∷ 1 ∷ 0 ∷ 1 ∷ 0 ∷ 1 ∷ 0 ∷ 1 ∷ 0 ∷ 9 ∷ []) (1 ∷ 0 ∷ 1 ∷ 0 ∷ 0 ∷ 0 ∷ 1 ∷ 0 ∷ 1 ∷ 9 ∷ [])
+    (0 ∷ 0 ∷ 0 ∷ 0 ∷ 0 ∷ 0 ∷ 0 ∷ 0 ∷ 0 ∷ 9 ∷ []) (0 ∷ 0 ∷ 0 ∷ 0 ∷ 1 ∷ 0 ∷ 0 ∷ 0 ∷ 0 ∷ 9 ∷ []))
+    ∷ draws pondOutlet 0 8 (nines 3) 0 (8 ∷ 4 ∷ 9 ∷ []) (8 ∷ 4 ∷ [])
+    -- the same where it is no outlet: its cells and itself are in no subwatershed
+    ∷ traces pondBeside 0 (1 ∷ 1 ∷ 1 ∷ 3 ∷ 1 ∷ 9 ∷ 1 ∷ 2 ∷ 1 ∷ 1 ∷ 1 ∷ 1 ∷ 9 ∷ [])
+    (ways 2 0 1 3 0 3 (11 ∷ 9 ∷ 9 ∷ []) ∷ [])
+    ∷ measures pondBeside 0 (lengthGrids
+    (0 ∷ 0 ∷ 0 ∷ 0 ∷ 0 ∷ 0 ∷ 0 ∷ 1 ∷ 0 ∷ 0 ∷ 0 ∷ 2 ∷ 9 ∷ []) (0 ∷ 0 ∷ 0 ∷ 0 ∷ 0 ∷ 0 ∷ 0 ∷ 0 ∷ 0 ∷ 0 ∷ 0 ∷ 0 ∷ 9 ∷ [])
+    (0 ∷ 0 ∷ 0 ∷ 2 ∷ 0 ∷ 0 ∷ 0 ∷ 1 ∷ 0 ∷ 0 ∷ 0 ∷ 0 ∷ 9 ∷ []) (0 ∷ 0 ∷ 0 ∷ 0 ∷ 0 ∷ 0 ∷ 0 ∷ 0 ∷ 0 ∷ 0 ∷ 0 ∷ 0 ∷ 9 ∷ []))
+    ∷ draws pondBeside 0 0 (nines 3) 22 (nines 3) []
+    ∷ draws pondBeside 0 5 (nines 3) 22 (nines 3) []
+    ∷ eachWay (λ way. calls way pondOutlet 0 (nines 5) 28 (found 0 1 4 9 0)
+    (1 ∷ 1 ∷ 1 ∷ 1 ∷ 9 ∷ 1 ∷ 1 ∷ 1 ∷ 1 ∷ 9 ∷ []) (8 ∷ 6 ∷ 0 ∷ 2 ∷ 9 ∷ []) (wiped 27 way))
+
 -- THE TABLE
 abbrev pub marks : List Mark
-marks = markedCases ++ trapGrids ++ refusedCalls ++ drawings
+marks = markedCases ++ trapGrids ++ refusedCalls ++ drawings ++ ponds

@@ -20,6 +20,7 @@ use Rattle.answers.specs.Answers.{answered, tracedBy}
 use Rattle.answers.specs.Tracings.{Call, lent, chosenCells, chosenTracing}
 use Rattle.answers.specs.Tracings.{recursionNumber, stackNumber, leavesSubaccumulation, leavesStarts, leavesWork}
 use Rattle.answers.specs.Drawing.{Drawing, drawNumber, drawLeaves, drawnPart}
+use Rattle.answers.specs.FlowLengths.{LengthGrids, lengthGrids, flowLengthsNumber, flowLengthsLeaves}
 
 -- what was lent holds nines
 abbrev pub nines : ℕ → List ℕ
@@ -84,6 +85,8 @@ pub data Mark : Type 0 where
   calls : Tracer → Catchment → (place : ℕ) (starts : List ℕ) (work : ℕ) → Traced → List ℕ → List ℕ → List ℕ → Mark
   -- one drawing: the lent places; the number, what is left, the part handed back
   draws : Catchment → (place start : ℕ) (room : List ℕ) → ℕ → List ℕ → List ℕ → Mark
+  -- flow lengths: the number, what is left in the four grids
+  measures : Catchment → ℕ → LengthGrids → Mark
 
 -- a row for each of the four
 abbrev pub eachWay : (Tracer → Mark) → List Mark
@@ -149,3 +152,7 @@ worked (calls way c place starts work t filled kept clean) = let space = nines w
 worked (draws c place start room n kept part) =
     let q : Drawing = record { catchment = c; place = place; start = start } in
     draws c place start room (drawNumber q room) (drawLeaves q room) (drawnPart q room)
+worked (measures c n kept) =
+    let old = lentGrid (c .grid) in
+    let four = lengthGrids old old old old in
+    measures c (flowLengthsNumber c four) (flowLengthsLeaves c four)

@@ -41,8 +41,8 @@ fn all_reach(n: usize, lent: &[usize]) -> bool
 
 // 10, 11, 12, of codes in the given table. The lengths of the other lent grids are given. No product is taken before 10
 // is passed.
-pub fn number_in(table: &[u8; 9], rows: usize, cols: usize, codes: &[u8], lent: &[usize]) -> u32
-    requires { ⌜ length (now table) ≡ 9 ⌝ }
+pub fn number_in(table: &[u8; 10], rows: usize, cols: usize, codes: &[u8], lent: &[usize]) -> u32
+    requires { ⌜ length (now table) ≡ 10 ⌝ }
     ensures { λ r. ⌜ ((t : Table) → now (table .entry) ≡ codesOf t
         → r ≡ firstFailed (gridChecks (gridIn t rows cols (now (codes .entry))) (now (lent .entry)))) ⌝ }
 {

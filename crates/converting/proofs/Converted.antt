@@ -29,12 +29,12 @@ pub pairs : (from to : Table) {a b : List ℕ} → a ≡ codesOf from → b ≡ 
 pairs from to e f = record { from-length = rw e; to-length = rw f; are-different = rw e (from .apart) }
 
 -- what is looked up for a code is its code in the other table
-pub looked : (from to : Table) {a b found : List ℕ} → a ≡ codesOf from → b ≡ codesOf to → LooksUp 9 a b found
+pub looked : (from to : Table) {a b found : List ℕ} → a ≡ codesOf from → b ≡ codesOf to → LooksUp 10 a b found
     → (code : ℕ) → isCode from code ≡ true → getD found code 0 ≡ recoded from to code
 unfolding isCode
 looked from to {a} {b} {found} e f l code is-code =
     let p = position-of code (codesOf from) is-code in
-    let i : p .at < 9 = p .inside in
+    let i : p .at < 10 = p .inside in
     ap (λ (x : ℕ). getD found x 0) (sym (p .holds) ∙ ap (λ (xs : List ℕ). getD xs (p .at) 0) (sym e))
     ∙ l .holds (p .at) i
     ∙ ap (λ (xs : List ℕ). getD xs (p .at) 0) (f ∙ sym (recoded-codes from to))
@@ -82,7 +82,7 @@ module _ (c : Conversion) (old : List ℕ) where
       }
 
       pub told : {a b found new : List ℕ} → a ≡ codesOf (g .table) → b ≡ codesOf (tableOf (c .to))
-          → LooksUp 9 a b found → Rewritten (cellCount g) (cellCount g) found (g .codes) old new → Converts c old 0 new
+          → LooksUp 10 a b found → Rewritten (cellCount g) (cellCount g) found (g .codes) old new → Converts c old 0 new
       unfolding convertLeaves
       told {a} {b} {found} {new} e f l w = record { answers = sym z ∙ number-is; leaves = over ∙ rw (sym number-is ∙ z) }
         where

@@ -13,7 +13,7 @@ use Rattle.lists.proofs.Kept.{kept-all, kept-then, kept-set, stored}
 use Rattle.converting.specs.LookUp.{Pairs, LooksUp, Readable, Rewritten}
 
 -- one code more
-pub look-next : {k : ℕ} {from to found : List ℕ} (p : Pairs from to) → k < 9 → LooksUp k from to found → {code : ℕ}
+pub look-next : {k : ℕ} {from to found : List ℕ} (p : Pairs from to) → k < 10 → LooksUp k from to found → {code : ℕ}
     → code ≡ getD from k 0 → code < 256 → LooksUp (k + 1) from to (set found code (getD to k 0))
 look-next {k} {from} {to} {found} p h l {code} e small = record {
   is-long = length-set found code _ ∙ l .is-long;

@@ -10,8 +10,8 @@ use Rattle.lists.specs.Slices.{Kept}
 
 -- the codes of two tables, place by place; no code stands twice in the first
 pub record Pairs (from to : List ℕ) : Type 0 where
-  pub from-length : length from ≡ 9
-  pub to-length : length to ≡ 9
+  pub from-length : length from ≡ 10
+  pub to-length : length to ≡ 10
   pub are-different : different from ≡ true
 
 -- at each of the first k codes of one list stands the code of the other at the same place

@@ -7,13 +7,13 @@ ghost use Rattle.answers.specs.Converting.{conversion, Converts};
 ghost use Rattle.converting.specs.LookUp.{Pairs, LooksUp, Readable, Rewritten};
 
 // For each code of one table the code of the other that stands at the same place.
-fn look_up(from: &[u8; 9], to: &[u8; 9]) -> [u8; 256]
+fn look_up(from: &[u8; 10], to: &[u8; 10]) -> [u8; 256]
     requires { ⌜ Pairs (now from) (now to) ⌝ }
-    ensures { λ r. ⌜ LooksUp 9 (now (from .entry)) (now (to .entry)) r ⌝ }
+    ensures { λ r. ⌜ LooksUp 10 (now (from .entry)) (now (to .entry)) r ⌝ }
 {
     let mut found = [0u8; 256];
     let mut k: usize = 0;
-    while k < 9 {
+    while k < 10 {
         let code = byte_value(from[k]);
         found[code] = to[k];
         k += 1;

@@ -1,8 +1,8 @@
 -- A code in another table: what it keeps of the cell.
 -- Assumes nothing.
-use mathlib.Core.Path.{_≡_, refl, sym, ap, _∙_}
+use mathlib.Core.Path.{_≡_, refl, sym, ap, _∙_, subst}
 use mathlib.Core.Bool.{true, false}
-use mathlib.Core.Logic.{inl}
+use mathlib.Core.Logic.{inl, inr}
 use mathlib.Core.List.{map}
 use Prim.Native.Nat.{ℕ, _≤_, _<_}
 use native.Mathlib.Omega.{arith}
@@ -14,7 +14,7 @@ use Rattle.lists.specs.Lists.{In}
 use Rattle.lists.proofs.Lists.{in-left, in-right, in-cases, in-map, map-in, getD-map}
 use Rattle.lists.proofs.Members.{in-member, member-in}
 use Rattle.ground.specs.Compass.{Dir, E, SE, S, SW, W, NW, N, NE, dirs}
-use Rattle.ground.specs.Tables.{Table, undirected, codesOf, isCode, dirOf}
+use Rattle.ground.specs.Tables.{Table, pond, undirected, codesOf, isCode, dirOf}
 use Rattle.ground.specs.Grid.{Grid, cellCount}
 use Rattle.ground.specs.Converting.{codeBy, recoded, convertedCodes}
 use Rattle.ground.proofs.Tables.{all-dirs, table-facts}
@@ -53,6 +53,7 @@ module _ (from to : Table) where
   pub recoded-codes : map (recoded from to) (codesOf from) ≡ codesOf to
   recoded-codes = rw (
     recoded-none 0 (inl refl),
+    recoded-none pond (inr (inl refl)),
     recoded-dir E,
     recoded-dir SE,
     recoded-dir S,
@@ -73,15 +74,16 @@ module _ (from to : Table) where
             ∙ sym (table-facts from .gives-none code i)
         go (direction d q) = rw (q, recoded-dir d, table-facts to .found d, table-facts from .found d)
 
-    -- and null
-    pub recoded-null : eqb (recoded from to code) 0 ≡ eqb code 0
-    recoded-null = go (means from code e)
+    -- and each code of no direction: null stays null, and a pond a pond
+    pub recoded-kept : (u : ℕ) → In u undirected → eqb (recoded from to code) u ≡ eqb code u
+    recoded-kept u k = go (means from code e)
       where
-        directed : (t : Table) (d : Dir) → eqb (t .codeOf d) 0 ≡ false
-        directed t d = ne-eqb (t .codeOf d) 0 (λ q. table-facts t .directed d (inl q))
+        directed : (t : Table) (d : Dir) → eqb (t .codeOf d) u ≡ false
+        directed t d = ne-eqb (t .codeOf d) u
+            (λ q. table-facts t .directed d (subst (λ (c : ℕ). In c undirected) (sym q) k))
 
-        go : Means from code → eqb (recoded from to code) 0 ≡ eqb code 0
-        go (no-direction i) = ap (λ (c : ℕ). eqb c 0) (recoded-none code i)
+        go : Means from code → eqb (recoded from to code) u ≡ eqb code u
+        go (no-direction i) = ap (λ (c : ℕ). eqb c u) (recoded-none code i)
         go (direction d q) = rw (q, recoded-dir d, directed to d, directed from d)
 
     -- the code is one of the target table

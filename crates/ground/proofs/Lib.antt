@@ -8,6 +8,7 @@ pub mod Subwatersheds
 pub mod Tables
 pub mod Cells
 pub mod GridNetwork
+pub mod Ponds
 pub mod Ground
 pub mod AllOutlets
 pub mod FlowLengths

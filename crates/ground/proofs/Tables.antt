@@ -33,7 +33,7 @@ pub record TableFacts (t : Table) : Type 0 where
   pub only : (code : ℕ) (d : Dir) → dirOf t code ≡ some d → code ≡ t .codeOf d
   -- codes tell directions apart
   pub different : (d e : Dir) → t .codeOf d ≡ t .codeOf e → d ≡ e
-  -- no direction has a code of no direction, 0 among them
+  -- no direction has a code of no direction: neither a null cell's nor a pond's
   pub directed : (d : Dir) → In (t .codeOf d) undirected → ⊥
   -- a code of no direction gives none
   pub gives-none : (code : ℕ) → In code undirected → dirOf t code ≡ none

@@ -1,10 +1,11 @@
--- The walk's definitions by cases.
+-- The walk's definitions by cases, and the walk's end.
 -- Assumes nothing.
-use mathlib.Core.Path.{_≡_, refl}
+use mathlib.Core.Path.{_≡_, refl, sym, ap, _∙_}
 use mathlib.Core.Bool.{Bool, true, false}
 use mathlib.Core.List.{[], _∷_, _++_, map, reverse-cons}
 use mathlib.Core.Option.{Option, none, some}
-use Prim.Native.Nat.{ℕ, zero, suc}
+use Prim.Native.Nat.{ℕ, zero, suc, _<_}
+use native.Mathlib.Omega.{arith}
 use Rattle.lengths.specs.Lengths.{Lengths}
 use Rattle.ground.specs.Compass.{Dir, opposite}
 use Rattle.ground.specs.Grid.{Link}
@@ -55,6 +56,20 @@ module _ {S : Type 0} (next : ℕ → Option (Link S)) where
   pub after-zero : (c : ℕ) → after next zero c ≡ some c
   unfolding after
   after-zero c = refl
+
+  -- after the cell where it ends a walk is over
+  pub after-last : (k c x : ℕ) → after next k c ≡ some x → next x ≡ none → (j : ℕ) → k < j → after next j c ≡ none
+  after-last k c x e n zero h = absurd (omega arith)
+  after-last zero c x e n (suc j) h =
+      let p : some c ≡ some x = sym (after-zero c) ∙ e in
+      let q : c ≡ x = cc in
+      after-end j c (ap next q ∙ n)
+  after-last (suc k) c x e n (suc j) h = go (next c) refl (λ y f. after-last k y x f n j (omega arith))
+    where
+      go : (o : Option (Link S)) → next c ≡ o → ((y : ℕ) → after next k y ≡ some x → after next j y ≡ none)
+          → after next (suc j) c ≡ none
+      go none f ih = after-end j c f
+      go (some l) f ih = after-next j c l f ∙ ih (l .cell) (sym (after-next k c l f) ∙ e)
 
 module _ {S : Type 0} (next : ℕ → Option (Link S)) (outlet : ℕ → Bool) where
   -- at an outlet the walk is over, at another cell it goes on

@@ -8,7 +8,7 @@ use Rattle.ground.specs.Compass.{Dir}
 use Rattle.ground.specs.Tables.{Table, dirOf}
 use Rattle.ground.specs.Grid.{Grid, gridIn, cellCount}
 
--- 02: a cell keeps its direction; a code of no direction, as a null cell's 0, is the same in every table
+-- 02: a cell keeps its direction; a code of no direction, a null cell's or a pond's, is the same in every table
 abbrev pub codeBy : Table → ℕ → Option Dir → ℕ
 codeBy to code none = code
 codeBy to code (some d) = to .codeOf d

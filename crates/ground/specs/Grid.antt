@@ -7,7 +7,7 @@ use Prim.Native.Nat.{ℕ, _+_, _*_, _/_, _%_}
 use lib.ListN.{getD}
 use lib.Dec.{eqb, ltb}
 use Rattle.ground.specs.Compass.{Dir, dirs, opposite, shifted, rowShift, colShift}
-use Rattle.ground.specs.Tables.{Table, table1, dirOf, pointsIn}
+use Rattle.ground.specs.Tables.{Table, table1, pond, dirOf, pointsIn}
 
 -- 01, The ground: so many rows and columns, and a code for each cell. The codes stand row by row in the first R × C
 -- places of the list; 02: they are of a table
@@ -48,6 +48,10 @@ module _ (g : Grid) where
   abbrev pub ground : ℕ → Bool
   ground x = not (eqb (codeAt x) 0)
 
+  -- 02, U4: a pond has ground, and its code points in no direction
+  abbrev pub isPond : ℕ → Bool
+  isPond x = eqb (codeAt x) pond
+
   -- the neighbour in a direction, if it is on the grid: by row and column, and never by the cell number alone
   unfoldable pub neighbour : ℕ → Dir → Option ℕ
   neighbour x d = cellAt (g .cols)
@@ -67,7 +71,7 @@ module _ (g : Grid) where
   along x none = none
   along x (some d) = onto d (neighbour x d)
 
-  -- where a cell flows: a walk ends where this is none, off the grid or before a null cell
+  -- where a cell flows: a walk ends where this is none, off the grid, before a null cell or at a pond
   unfoldable pub next : ℕ → Option (Link Dir)
   next x = along x (flow x)
 

@@ -9,11 +9,15 @@ use lib.Dec.{eqb, leb}
 use Rattle.lists.specs.Lists.{member, different}
 use Rattle.ground.specs.Compass.{Dir, E, SE, S, SW, W, NW, N, NE, dirs}
 
--- the codes that stand for no direction, the same in every table: 0, a null cell
-abbrev pub undirected : List ℕ
-undirected = 0 ∷ []
+-- 02, U4: the code of a pond, which is ground that drains nowhere
+abbrev pub pond : ℕ
+pond = 255
 
--- all codes of a table: those of no direction, then the directions' in 01's order
+-- the codes that stand for no direction, the same in every table: 0, a null cell, and a pond's
+abbrev pub undirected : List ℕ
+undirected = 0 ∷ pond ∷ []
+
+-- all ten codes of a table: those of no direction, then the directions' in 01's order
 abbrev pub allCodes : (Dir → ℕ) → List ℕ
 allCodes codeOf = undirected ++ map codeOf dirs
 

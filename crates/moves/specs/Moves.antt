@@ -31,7 +31,7 @@ moveOf d = record { row = shiftNumber (rowShift d); col = shiftNumber (colShift 
 abbrev pub byMove : ℕ → ℕ → Step → Lead
 byMove row col step = By (record { row = row; col = col; step = step })
 
--- a null cell's code leads nowhere, as does what is no code
+-- the code of a null cell or of a pond leads nowhere, as does what is no code
 abbrev pub leadBy : Option Dir → Lead
 leadBy none = Nowhere
 leadBy (some d) = By (moveOf d)

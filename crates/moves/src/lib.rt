@@ -31,7 +31,7 @@ fn by(row: usize, col: usize, step: Step) -> Lead
     Lead::By(Move { row, col, step })
 }
 
-// The step of a code. A null cell and a byte that is no code lead nowhere.
+// The step of a code. A null cell and a pond lead nowhere, as does a byte that is no code.
 pub fn lead_of(code: u8) -> Lead
     ensures { λ r. ⌜ r ≡ leadOf code ⌝ }
 {
@@ -45,6 +45,7 @@ pub fn lead_of(code: u8) -> Lead
         32 => by(0, 0, Step::Diagonal),
         64 => by(0, 1, Step::Straight),
         128 => by(0, 2, Step::Diagonal),
+        255 => Lead::Nowhere,
         _ => Lead::Nowhere,
     }
 }

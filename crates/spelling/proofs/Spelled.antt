@@ -144,7 +144,7 @@ outlets-many rows cols (suc n) (o ∷ os) more some a h =
 
 -- ---- the whole file
 
--- a grid of sheet size, with codes among the nine
+-- a grid of sheet size, with codes among the ten
 pub record SheetGrid (rows cols : ℕ) (codes : List ℕ) : Type 0 where
   pub some-rows : 1 ≤ rows
   pub rows-small : rows ≤ 64

@@ -83,10 +83,11 @@ examples =
     ∷ damaged (set sample 8 1) 4
     ∷ damaged (set sample 9 1) 4
     ∷ damaged (set twoRows 16 0) 4
-    -- 5: not among the nine; before the next row is looked for
+    -- 5: not among the ten; before the next row is looked for. A pond is
     ∷ damaged (set sample 10 3) 5
-    ∷ damaged (set sample 13 255) 5
+    ∷ damaged (set sample 13 254) 5
     ∷ damaged (set (take 14 twoRows) 12 3) 5
+    ∷ accepts (set sample 13 255) 1 4 (1 ∷ 4 ∷ 16 ∷ 255 ∷ []) (1 ∷ [])
     -- 6: over, cut, another mark
     ∷ damaged (take 14 sample) 6
     ∷ damaged (take 19 sample) 6
@@ -111,6 +112,8 @@ examples =
     -- writing: in more bytes, and in just enough; a fifth code is not looked at
     ∷ writes (content 1 4 sampleCodes (1 ∷ [])) (nines 24) (record { number = 0; length = 22 }) (sample ++ 9 ∷ 9 ∷ [])
     ∷ writes (content 1 4 (sampleCodes ++ 3 ∷ []) (1 ∷ [])) (nines 22) (record { number = 0; length = 22 }) sample
+    ∷ writes (content 1 4 (1 ∷ 4 ∷ 16 ∷ 255 ∷ []) (1 ∷ [])) (nines 22) (record { number = 0; length = 22 })
+    (set sample 13 255)
     -- 2, 3, 5, 8, 7, 23, each before the next
     ∷ unwritten (content 0 4 [] []) 0 2
     ∷ unwritten (content 1 65 [] []) 0 2

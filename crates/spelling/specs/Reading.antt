@@ -90,7 +90,7 @@ areSheetSides rows cols = isSheetSide rows && isSheetSide cols
 abbrev pub check2 : ℕ → ℕ → Check
 check2 rows cols = check 2 (areSheetSides rows cols)
 
--- a row: 4, is its record whole, with mark and row number right? 5, are its codes among the nine?
+-- a row: 4, is its record whole, with mark and row number right? 5, are its codes among the ten?
 abbrev pub rowChecks : ℕ → ℕ → List ℕ → List Check
 rowChecks cols row rest = check 4 (isRow cols row rest) ∷ check 5 (allPass (isCode table1) (rowCodes cols rest)) ∷ []
 

@@ -22,7 +22,7 @@ use Rattle.spelling.proofs.Records.{all-first}
 use Rattle.spelling.proofs.Writable.{spellable, spellable-passes}
 use Rattle.spelling.proofs.Sizes.{spelling-length}
 
--- are the codes that count among the nine, one by one?
+-- are the codes that count among the ten, one by one?
 abbrev pub tested : Content → Bool
 tested c = allBelow (λ x. isCode table1 (getD (c .codes) x 0)) (c .rows * c .cols)
 

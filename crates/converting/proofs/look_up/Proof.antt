@@ -10,10 +10,10 @@ use Rattle.converting.proofs.look_up.Statement.{statement}
 use Rattle.converting.proofs.look_up.Tie as tie
 
 abbrev Inv-loop : tie.InvT-loop
-Inv-loop from to found₀ k₀ found k = (k ≤ 9) × LooksUp k from to found
+Inv-loop from to found₀ k₀ found k = (k ≤ 10) × LooksUp k from to found
 
 abbrev μ-loop : tie.MeasureT-loop
-μ-loop from to found₀ k₀ found k = 9 - k
+μ-loop from to found₀ k₀ found k = 10 - k
 
 loop-holds : tie.Need-loop-holds Inv-loop μ-loop
 loop-holds c = (search needs, record { is-long = refl; holds = λ j h. absurd (omega arith) })
@@ -46,7 +46,7 @@ returns : tie.Need-returns Inv-loop μ-loop
 returns c =
     let l = c .before .loop in
     let a = c .before .before .args in
-    let e : l .k ≡ 9 = omega (arith, c .loop-test .left) in
+    let e : l .k ≡ 10 = omega (arith, c .loop-test .left) in
     subst (λ (k : ℕ). LooksUp k (a .from .now) (a .to .now) (l .found)) e (l .inv .1)
 
 pub look-up-spec : {M : Type 1} → statement M

@@ -1,4 +1,5 @@
--- `ground::lead_of` meets its contract: each arm is its direction's move, and what is no code has none.
+-- `moves::lead_of` meets its contract: each arm is its direction's move, and a null cell, a pond and what is no code
+-- have none.
 -- Assumes nothing.
 use mathlib.Core.Path.{sym, ap, _∙_}
 use borrow.Author.Needs.{needs}
@@ -69,9 +70,13 @@ unfolding leadOf dirOf
 returns-9 c = c .by8 .ensures ∙ rw (c .before .match .keys9)
 
 returns-10 : tie.Need-returns-10
+unfolding leadOf dirOf
+returns-10 c = rw (c .match .keys10)
+
+returns-11 : tie.Need-returns-11
 unfolding leadOf
-returns-10 c =
-    let r = c .match .rest in
+returns-11 c =
+    let r = c .match .rest .0 in
     sym (ap leadBy (no-dir (r .0 .0 .0 .0 .0 .0 .0 .1) (r .0 .0 .0 .0 .0 .0 .1) (r .0 .0 .0 .0 .0 .1) (r .0 .0 .0 .0 .1)
     (r .0 .0 .0 .1) (r .0 .0 .1) (r .0 .1) (r .1)))
 
@@ -96,4 +101,5 @@ lead-of-spec =
     returns-7
     returns-8
     returns-9
-    returns-10)
+    returns-10
+    returns-11)

@@ -14,10 +14,10 @@ use Rattle.tables.proofs.fault_of.Statement.{statement}
 use Rattle.tables.proofs.fault_of.Tie as tie
 
 abbrev Inv-loop : tie.InvT-loop
-Inv-loop table code fault₀ k₀ fault k = (k ≤ 9) × (fault ≡ faultOf (member code (take k table)))
+Inv-loop table code fault₀ k₀ fault k = (k ≤ 10) × (fault ≡ faultOf (member code (take k table)))
 
 abbrev μ-loop : tie.MeasureT-loop
-μ-loop table code fault₀ k₀ fault k = 9 - k
+μ-loop table code fault₀ k₀ fault k = 10 - k
 
 loop-holds : tie.Need-loop-holds Inv-loop μ-loop
 loop-holds c = (search needs, refl)
