@@ -101,6 +101,23 @@ mod tests {
     }
 
     #[test]
+    fn ponds() {
+        assert_eq!(
+            output_of(1, 4, &[1, 255, 16, 16], &[1]),
+            "catchment 1 4 outlets 1\n\
+             outlet 1 at 0 1 cells 4 straight 2 diagonal 0 paths 1 visited 3 dropped 1\n\
+             path 0 3\n"
+        );
+        // One is an outlet alone, the other none though a cell flows there.
+        assert_eq!(
+            output_of(2, 2, &[255, 4, 0, 255], &[0]),
+            "catchment 2 2 outlets 1\n\
+             outlet 1 at 0 0 cells 1 straight 0 diagonal 0 paths 1 visited 1 dropped 0\n\
+             path 0 0\n"
+        );
+    }
+
+    #[test]
     fn refusals_print_nothing_else() {
         assert_eq!(output(b""), "refused 1\n");
         assert_eq!(output_of(1, 2, &[1, 16], &[]), "refused 13\n");

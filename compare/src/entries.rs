@@ -160,7 +160,7 @@ pub fn flow_lengths(
 /// both numbers, 12 by the table that the codes come from.
 ///
 /// Accepted, each of the first R × C places of the written grid holds the other
-/// table's code for the cell's direction, or 0 for null.
+/// table's code for the cell's direction, 0 for null, or 255 for a pond.
 pub fn convert(
     from: u32,
     to: u32,

@@ -58,14 +58,14 @@ mod tests {
     use crate::subwatershed::tests::every_division;
 
     /// Divisions of every grid of four cells, and of many larger ones whose cells flow east or
-    /// south, so that there is no ring.
+    /// south, so that there is no ring, or are ponds.
     fn many_divisions(judge: impl Fn(&Division, &[u32])) {
         every_division(&judge);
         let mut random = Random::new(1);
         for _ in 0..3000 {
             let (rows, cols) = (random.between(1, 7), random.between(1, 7));
             let codes: Vec<u8> =
-                (0..rows * cols).map(|_| random.pick(&[1, 2, 2, 4, 4, 8, 8, 0])).collect();
+                (0..rows * cols).map(|_| random.pick(&[1, 2, 2, 4, 4, 8, 8, 0, 255])).collect();
             let ground = Ground::new(rows, cols, &codes);
             let mut outlets: Vec<u32> = ground.solid().map(|cell| cell as u32).collect();
             random.shuffle(&mut outlets);
@@ -168,6 +168,18 @@ mod tests {
         let [down, up] = on_grid(7, &[1, 1, 1, 1, 0, 16, 16], &[1, 6]);
         assert_eq!(down, [(1, 0), NONE, NONE, NONE, NONE, NONE, NONE]);
         assert_eq!(up, [NONE, (1, 0), NONE, NONE, NONE, NONE, NONE]);
+    }
+
+    #[test]
+    fn ponds_that_are_outlets_and_ponds_that_are_none() {
+        let codes = [1, 255, 16, 255, 16];
+        let a = (1, 0);
+        let [down, up] = on_grid(5, &codes, &[1]);
+        assert_eq!(down, [a, NONE, a, NONE, NONE]);
+        assert_eq!(up, [NONE, a, NONE, NONE, NONE]);
+        let [down, up] = on_grid(5, &codes, &[3, 1]);
+        assert_eq!(down, [a, NONE, a, NONE, a]);
+        assert_eq!(up, [NONE, a, NONE, a, NONE]);
     }
 
     #[test]

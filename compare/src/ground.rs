@@ -7,10 +7,22 @@
 pub const NEIGHBOURS: [(isize, isize); 8] =
     [(0, 1), (1, 1), (1, 0), (1, -1), (0, -1), (-1, -1), (-1, 0), (-1, 1)];
 
-/// Is the byte among the nine codes? 0 is a null cell, and `1 << way` goes to
-/// the neighbour that way.
+/// The code of a null cell: no ground.
+pub const NULL: u8 = 0;
+
+/// The code of a pond: ground that drains nowhere.
+pub const POND: u8 = 255;
+
+/// Is the byte among the ten codes: that of a null cell, that of a pond, or one
+/// that goes to a neighbour?
 pub fn is_code(byte: u8) -> bool {
-    byte == 0 || byte.is_power_of_two()
+    byte == NULL || byte == POND || way_of(byte).is_some()
+}
+
+/// The way that a code goes, which is `1 << way`. A null cell and a pond go
+/// none.
+pub fn way_of(code: u8) -> Option<usize> {
+    code.is_power_of_two().then(|| code.trailing_zeros() as usize)
 }
 
 /// A grid of R rows and C columns with a code at each cell; cells are numbered
@@ -41,19 +53,23 @@ impl<'a> Ground<'a> {
     }
 
     pub fn is_null(&self, cell: usize) -> bool {
-        self.codes[cell] == 0
+        self.codes[cell] == NULL
     }
 
-    /// The non-null cells by number.
+    pub fn is_pond(&self, cell: usize) -> bool {
+        self.codes[cell] == POND
+    }
+
+    /// The non-null cells by number, ponds among them.
     pub fn solid(&self) -> impl Iterator<Item = usize> + 'a {
         let codes = self.codes;
-        (0..codes.len()).filter(move |&cell| codes[cell] != 0)
+        (0..codes.len()).filter(move |&cell| codes[cell] != NULL)
     }
 
     /// The step that a non-null cell's code tells, or none where the walk ends:
-    /// where the code points off the grid or to a null cell.
+    /// at a pond, and where the code points off the grid or to a null cell.
     pub fn step(&self, cell: usize) -> Option<Step> {
-        let way = self.codes[cell].trailing_zeros() as usize;
+        let way = way_of(self.codes[cell])?;
         let to = self.neighbour(cell, way)?;
         let step = Step { to: to as u32, diagonal: way % 2 == 1 };
         (!self.is_null(to)).then_some(step)
@@ -160,16 +176,20 @@ impl<'a> Ground<'a> {
 pub(crate) mod tests {
     use super::*;
 
-    pub(crate) const CODES: [u8; 9] = [0, 1, 2, 4, 8, 16, 32, 64, 128];
+    pub(crate) const CODES: [u8; 10] = [0, 1, 2, 4, 8, 16, 32, 64, 128, 255];
 
     /// Every grid of that many rows and columns.
     pub(crate) fn every_grid(rows: usize, cols: usize) -> impl Iterator<Item = Vec<u8>> {
-        let cells = rows * cols;
-        (0..9usize.pow(cells as u32)).map(move |mut number| {
-            (0..cells)
+        every_list(&CODES, rows * cols)
+    }
+
+    /// Every list of so many of these codes.
+    pub(crate) fn every_list(codes: &'static [u8], count: usize) -> impl Iterator<Item = Vec<u8>> {
+        (0..codes.len().pow(count as u32)).map(move |mut number| {
+            (0..count)
                 .map(|_| {
-                    let code = CODES[number % 9];
-                    number /= 9;
+                    let code = codes[number % codes.len()];
+                    number /= codes.len();
                     code
                 })
                 .collect()
@@ -189,7 +209,7 @@ pub(crate) mod tests {
     }
 
     #[test]
-    fn nine_codes() {
+    fn ten_codes() {
         let codes: Vec<u8> = (0..=255).filter(|&byte| is_code(byte)).collect();
         assert_eq!(codes, CODES);
     }
@@ -215,6 +235,57 @@ pub(crate) mod tests {
         assert_eq!(ground.below(0), None);
         assert_eq!(ground.below(2), Some(3));
         assert_eq!(ground.below(3), None);
+    }
+
+    #[test]
+    fn a_walk_ends_at_a_pond_and_before_a_null_cell() {
+        let walked = |codes: [u8; 4], from: usize| -> Vec<usize> {
+            Ground::new(1, 4, &codes).walk(from).collect()
+        };
+        assert_eq!(walked([1, 1, 255, 1], 0), [0, 1, 2]);
+        assert_eq!(walked([1, 1, 0, 1], 0), [0, 1]);
+        assert_eq!(walked([1, 1, 255, 16], 3), [3, 2]);
+        assert_eq!(walked([1, 1, 255, 16], 2), [2]);
+    }
+
+    #[test]
+    fn a_pond_flows_nowhere_and_into_nobody() {
+        for codes in every_grid(2, 2) {
+            let ground = Ground::new(2, 2, &codes);
+            for pond in (0..4).filter(|&cell| ground.is_pond(cell)) {
+                assert!(!ground.is_null(pond));
+                assert!(ground.solid().any(|cell| cell == pond));
+                assert_eq!(ground.step(pond), None);
+                assert_eq!(ground.below(pond), None);
+                assert_eq!(ground.walk(pond).collect::<Vec<usize>>(), [pond]);
+                for cell in ground.solid() {
+                    assert!(ground.inflows(cell).all(|(_, inflow)| inflow != pond));
+                }
+            }
+        }
+    }
+
+    #[test]
+    fn eight_inflows_to_a_pond() {
+        let codes = [2, 4, 8, 1, 255, 16, 128, 64, 32];
+        let ground = Ground::new(3, 3, &codes);
+        let inflows: Vec<(usize, usize)> = ground.inflows(4).collect();
+        let cells = [5, 8, 7, 6, 3, 0, 1, 2];
+        assert_eq!(inflows, cells.into_iter().enumerate().collect::<Vec<_>>());
+        assert_eq!(ground.accumulation(), [1, 1, 1, 1, 9, 1, 1, 1, 1]);
+        assert!(!ground.has_ring());
+    }
+
+    #[test]
+    fn ponds_beside_ponds_and_beside_null_cells() {
+        let sums = |rows, cols, codes: &[u8]| Ground::new(rows, cols, codes).accumulation();
+        assert_eq!(sums(1, 1, &[255]), [1]);
+        // No pond is an inflow of another, wherever it lies.
+        assert_eq!(sums(3, 3, &[255; 9]), [1; 9]);
+        assert_eq!(sums(4, 1, &[4, 255, 255, 64]), [1, 2, 2, 1]);
+        // Nor does one flow off over null ground.
+        assert_eq!(sums(1, 4, &[255, 0, 255, 16]), [1, 0, 2, 1]);
+        assert_eq!(sums(3, 3, &[0, 0, 0, 0, 255, 0, 0, 0, 0]), [0, 0, 0, 0, 1, 0, 0, 0, 0]);
     }
 
     #[test]

@@ -98,7 +98,8 @@ fn is_dropped(d: Length, n: u32, greatest: Option<Length>) -> bool {
 #[cfg(test)]
 mod tests {
     use super::*;
-    use crate::ground::{tests::every_grid, Ground};
+    use crate::ground::tests::{every_grid, every_list};
+    use crate::ground::Ground;
 
     fn counts(rows: usize, cols: usize, codes: &[u8], outlet: u32) -> Counts {
         let division = Division::new(Ground::new(rows, cols, codes), &[outlet]);
@@ -121,8 +122,9 @@ mod tests {
 
     #[test]
     fn dropping_changes_counts_but_not_the_greatest_length() {
-        for codes in every_grid(1, 5).chain(every_grid(2, 2)) {
-            let (rows, cols) = if codes.len() == 5 { (1, 5) } else { (2, 2) };
+        // In a row all codes that go neither east nor west flow off like 4.
+        for codes in every_list(&[0, 1, 4, 16, 255], 6).chain(every_grid(2, 2)) {
+            let (rows, cols) = if codes.len() == 6 { (1, 6) } else { (2, 2) };
             let ground = Ground::new(rows, cols, &codes);
             if ground.has_ring() {
                 continue;

@@ -165,6 +165,19 @@ mod tests {
     }
 
     #[test]
+    fn ponds_are_read_and_written() {
+        let codes = [1, 255, 0, 255, 16, 255];
+        let file = sheet(2, 3, &codes, &[1, 5]);
+        let (mut read_codes, mut outlets) = ([9; 6], [9; 256]);
+        let shape = read(&file, &mut read_codes, &mut outlets).unwrap();
+        assert_eq!(shape, Shape { rows: 2, cols: 3, outlets: 2 });
+        assert_eq!((read_codes, &outlets[..3]), (codes, &[1, 5, 9][..]));
+        let mut written = vec![9; file.len()];
+        assert_eq!(write(2, 3, &codes, &[1, 5], &mut written), Ok(file.len()));
+        assert_eq!(written, file);
+    }
+
+    #[test]
     fn cut_anywhere_it_is_refused() {
         for length in 0..EXAMPLE.len() {
             let number = match length {
@@ -191,6 +204,7 @@ mod tests {
         assert_eq!(damaged(8, 1), 4);
         assert_eq!(damaged(9, 1), 4, "both bytes of a number count");
         assert_eq!(damaged(10, 3), 5);
+        assert_eq!(damaged(10, 254), 5);
         assert_eq!(damaged(14, 0), 6);
         assert_eq!(damaged(16, 1), 7);
         assert_eq!(damaged(17, 1), 7, "both bytes of a number count");
@@ -229,6 +243,7 @@ mod tests {
         assert_eq!(number(1, usize::MAX, &[], &[], 100), 2);
         assert_eq!(number(2, 2, &[1; 3], &[], 100), 3);
         assert_eq!(number(2, 2, &[1, 1, 1, 3], &[], 100), 5);
+        assert_eq!(number(2, 2, &[1, 1, 1, 254], &[], 100), 5);
         assert_eq!(number(2, 2, &[1, 1, 1, 1, 3], &[3, 3], 100), 0);
         assert_eq!(number(2, 2, &[1; 4], &[4; 257], 100), 8);
         assert_eq!(number(2, 2, &[1; 4], &[0, 4], 100), 7);

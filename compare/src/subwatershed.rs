@@ -194,6 +194,29 @@ pub(crate) mod tests {
     }
 
     #[test]
+    fn a_pond_is_an_outlet_like_any_other() {
+        let codes = [2, 4, 8, 1, 255, 16, 128, 64, 32];
+        let division = Division::new(Ground::new(3, 3, &codes), &[4]);
+        assert_eq!(division.subaccumulation()[4], 9);
+        let longest = Longest { length: Length::new(0, 1), starts: vec![8, 6, 0, 2] };
+        assert_eq!(division.longest(4), longest);
+        assert_eq!(division.path(8, 4), [8, 4]);
+        let alone = Division::new(Ground::new(1, 1, &[255]), &[0]);
+        assert_eq!(alone.longest(0), Longest { length: Length::ZERO, starts: vec![0] });
+        assert_eq!(alone.path(0, 0), [0]);
+    }
+
+    #[test]
+    fn what_drains_to_a_pond_that_is_no_outlet_belongs_nowhere() {
+        let codes = [1, 255, 16, 255, 16];
+        let division = Division::new(Ground::new(1, 5, &codes), &[3]);
+        let belonging: Vec<usize> = (0..5).filter(|&cell| division.belongs(cell, 3)).collect();
+        assert_eq!(belonging, [3, 4]);
+        assert!((0..3).all(|cell| division.meeting(cell).is_none()));
+        assert_eq!(division.subaccumulation(), [1, 3, 1, 2, 1]);
+    }
+
+    #[test]
     fn ties_are_ordered_by_route_and_not_by_number() {
         // Ways up from cell 4: SE, SW, NW, NE are cells 8, 6, 0, 2.
         let codes = [2, 4, 8, 1, 4, 16, 128, 0, 32];

@@ -5,7 +5,9 @@
 //! the row and column change of its step, and the same change is looked for in
 //! the other table.
 
-use std::iter::{once, successors};
+use std::iter::successors;
+
+use crate::ground::{NULL, POND};
 
 /// Row and column change of a step; rows grow to the south.
 type Change = (isize, isize);
@@ -35,6 +37,8 @@ const BY_DOUBLING: [u8; 8] = [1, 2, 4, 8, 16, 32, 64, 128];
 enum Meaning {
     /// There is no ground.
     Null,
+    /// It drains nowhere.
+    Pond,
     /// It flows to the neighbour there.
     To(Change),
 }
@@ -61,11 +65,12 @@ impl Table {
         }
     }
 
-    /// The nine codes, each with its meaning.
+    /// The ten codes, each with its meaning. Those of a null cell and of a pond
+    /// are the same in every table.
     fn legend(&self) -> impl Iterator<Item = (u8, Meaning)> + '_ {
         let changes = successors(Some(self.first), |&change| Some((self.next)(change)));
         let directions = self.codes.into_iter().zip(changes.map(Meaning::To));
-        once((0, Meaning::Null)).chain(directions)
+        [(NULL, Meaning::Null), (POND, Meaning::Pond)].into_iter().chain(directions)
     }
 
     /// What a byte means here, if it is a code of this table.
@@ -73,7 +78,7 @@ impl Table {
         self.legend().find(|&(code, _)| code == byte).map(|(_, meaning)| meaning)
     }
 
-    /// The code with that meaning: every table has all nine.
+    /// The code with that meaning: every table has all ten.
     fn code(&self, meaning: Meaning) -> u8 {
         let mut codes = self.legend().filter(|&(_, other)| other == meaning);
         codes.next().expect("a code for each meaning").0
@@ -97,12 +102,12 @@ mod tests {
         Table::numbered(number).expect("a table")
     }
 
-    /// The nine codes of a table, spelled out: null, then E, SE, S, SW, W, NW, N, NE.
-    fn spelled(number: u32) -> [u8; 9] {
+    /// The ten codes of a table, spelled out: null, then E, SE, S, SW, W, NW, N, NE, then a pond.
+    fn spelled(number: u32) -> [u8; 10] {
         match number {
-            1 => [0, 1, 2, 4, 8, 16, 32, 64, 128],
-            2 => [0, 8, 7, 6, 5, 4, 3, 2, 1],
-            3 => [0, 5, 6, 7, 8, 1, 2, 3, 4],
+            1 => [0, 1, 2, 4, 8, 16, 32, 64, 128, 255],
+            2 => [0, 8, 7, 6, 5, 4, 3, 2, 1, 255],
+            3 => [0, 5, 6, 7, 8, 1, 2, 3, 4, 255],
             _ => panic!("no table has number {number}"),
         }
     }
@@ -175,6 +180,15 @@ mod tests {
         }
         for (way, &change) in NEIGHBOURS.iter().enumerate() {
             assert_eq!(table(1).meaning(1 << way), Some(Meaning::To(change)));
+        }
+    }
+
+    #[test]
+    fn null_cells_and_ponds_in_every_table() {
+        for number in NUMBERS {
+            assert_eq!(table(number).meaning(0), Some(Meaning::Null));
+            assert_eq!(table(number).meaning(255), Some(Meaning::Pond));
+            assert_eq!(table(number).meaning(254), None);
         }
     }
 }

@@ -21,9 +21,9 @@ fn called(
     (answer.map_or_else(|Refusal(number)| number, |()| 0), converted)
 }
 
-/// M4's ground with a corner null, in each table: SE S SW, E S W, null S W.
+/// M4's ground with a corner null and another a pond, in each table: SE S SW, E S W, null S pond.
 const GROUNDS: [[u8; 9]; 3] =
-    [[2, 4, 8, 1, 4, 16, 0, 4, 16], [7, 6, 5, 8, 6, 4, 0, 6, 4], [6, 7, 8, 5, 7, 1, 0, 7, 1]];
+    [[2, 4, 8, 1, 4, 16, 0, 4, 255], [7, 6, 5, 8, 6, 4, 0, 6, 255], [6, 7, 8, 5, 7, 1, 0, 7, 255]];
 
 fn ground(table: u32) -> &'static [u8; 9] {
     &GROUNDS[table as usize - 1]
@@ -36,7 +36,7 @@ fn one_ground_in_all_tables() {
             let tables = (from, to);
             assert_eq!(called(tables, (3, 3), ground(from), 9), (0, ground(to).to_vec()));
             // Places beyond are kept, and what is lent beyond the codes is not judged.
-            let longer = [&ground(from)[..], &[255, 3]].concat();
+            let longer = [&ground(from)[..], &[254, 3]].concat();
             let (number, converted) = called(tables, (3, 3), &longer, 12);
             assert_eq!((number, &converted[..9]), (0, &ground(to)[..]));
             assert_eq!(converted[9..], [UNTOUCHED; 3]);
@@ -44,7 +44,7 @@ fn one_ground_in_all_tables() {
         let (_, own) = called((from, 1), (3, 3), ground(from), 9);
         let mut accumulation = [0; 9];
         assert_eq!(accumulate(3, 3, &own, &mut accumulation), Ok(()));
-        assert_eq!(accumulation, [1, 1, 1, 1, 6, 1, 0, 8, 1]);
+        assert_eq!(accumulation, [1, 1, 1, 1, 6, 1, 0, 7, 1]);
     }
 }
 
@@ -54,7 +54,7 @@ fn what_is_converted_can_be_converted_on() {
     for _ in 0..300 {
         let (rows, cols) = (random.between(1, 9), random.between(1, 9));
         let codes: Vec<u8> =
-            (0..rows * cols).map(|_| random.pick(&[0, 1, 2, 4, 8, 16, 32, 64, 128])).collect();
+            (0..rows * cols).map(|_| random.pick(&[0, 1, 2, 4, 8, 16, 32, 64, 128, 255])).collect();
         let convert = |from, to, codes: &[u8]| {
             let (number, converted) = called((from, to), (rows, cols), codes, codes.len());
             assert_eq!(number, 0);
@@ -101,4 +101,8 @@ fn refusals_change_nothing() {
     refused(12, (1, 2), (1, 1), &[3], 1);
     refused(12, (2, 1), (1, 1), &[16], 1);
     refused(12, (3, 1), (1, 1), &[128], 1);
+    // A code of none.
+    for tables in [(1, 1), (1, 3), (2, 1), (3, 2)] {
+        refused(12, tables, (1, 1), &[254], 1);
+    }
 }
