@@ -6,6 +6,7 @@ use second_reading::lengths::Length;
 /// What a lent slice holds before a call.
 pub const UNTOUCHED: u32 = 0xDEAD_BEEF;
 
+/// Sides, codes, the accumulation that is theirs, and outlets.
 pub struct Case {
     pub rows: usize,
     pub cols: usize,

@@ -49,6 +49,11 @@ fn sheets(random: &mut Random) -> Vec<Vec<u8>> {
     files.push(sheet(1, 2, &[1, 1], &[]));
     files.push(sheet(1, 2, &[1, 0], &[0, 0, 1]));
     files.push(sheet(3, 3, &[2, 4, 8, 1, 4, 16, 1, 4, 16], &[7, 4]));
+    // Ponds: alone, amidst eight inflows, beside one that is no outlet; and a byte beside theirs.
+    files.push(sheet(1, 1, &[255], &[0]));
+    files.push(sheet(3, 3, &[2, 4, 8, 1, 255, 16, 128, 64, 32], &[4]));
+    files.push(sheet(1, 5, &[1, 255, 16, 255, 16], &[3]));
+    files.push(sheet(1, 5, &[1, 254, 16, 255, 16], &[3]));
     files.extend(edges());
     for turn in 0..400 {
         let mut file = any_sheet(if turn % 3 == 0 { 64 } else { 10 }, random);

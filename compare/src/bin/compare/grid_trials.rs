@@ -20,11 +20,11 @@ pub use outlets::outlet_edges;
 
 /// Every grid of up to four cells, each solid cell an outlet in turn.
 pub fn every_small_grid(comparison: &mut Comparison, random: &mut Random) {
-    const CODES: [u8; 9] = [0, 1, 2, 4, 8, 16, 32, 64, 128];
+    const CODES: [u8; 10] = [0, 1, 2, 4, 8, 16, 32, 64, 128, 255];
     for (rows, cols) in [(1, 1), (1, 2), (2, 1), (1, 3), (3, 1), (2, 2)] {
         let cells = rows * cols;
-        for number in 0..9usize.pow(cells as u32) {
-            let codes = (0..cells as u32).map(|cell| CODES[number / 9usize.pow(cell) % 9]);
+        for number in 0..10usize.pow(cells as u32) {
+            let codes = (0..cells as u32).map(|cell| CODES[number / 10usize.pow(cell) % 10]);
             let grid = Grid { kind: "every small grid", rows, cols, codes: codes.collect() };
             comparison.about(format!("every small grid, {rows} x {cols}"));
             comparison.accumulate(rows, cols, &grid.codes, cells);

@@ -6,8 +6,8 @@
 //!   does not return;
 //! * `compare desk <program>` compares the desk program's output.
 //!
-//! The status is 0 if nothing differs, 1 if something does or a number was
-//! never seen, 2 if the program was not asked rightly.
+//! The status is 0 if nothing differs, 1 if something does or if a number or a
+//! sight of ponds never came, 2 if the program was not asked rightly.
 
 mod calls;
 mod desk_trials;
@@ -88,8 +88,8 @@ fn compare_calls(follow: bool) -> ExitCode {
     println!();
     comparison.tally.print();
     let unseen = comparison.tally.unseen();
-    for (entry, number) in &unseen {
-        println!("NEVER SEEN: {number} of {}", entry.name());
+    for sight in &unseen {
+        println!("NEVER SEEN: {sight}");
     }
     let calls = comparison.tally.calls();
     println!("{calls} calls, {:.1} s", begun.elapsed().as_secs_f64());

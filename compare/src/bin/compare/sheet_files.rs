@@ -66,11 +66,11 @@ pub fn worsen(file: &mut Vec<u8>, random: &mut Random) {
     }
 }
 
-/// Sheets at the edges of what is allowed, all of null cells, or of cells that
-/// flow off to the west, by rows, columns and number of outlets.
+/// Sheets at the edges of what is allowed, all of null cells, of cells that flow
+/// off to the west, or of ponds, by rows, columns and number of outlets.
 pub fn edges() -> Vec<Vec<u8>> {
     let mut files = Vec::new();
-    for code in [0, 16] {
+    for code in [0, 16, 255] {
         for (rows, cols) in [(64, 64), (64, 1), (1, 64), (65, 1), (1, 65), (65, 64), (64, 65)] {
             for count in [0, 1, 2, 255, 256, 257, 300] {
                 let cells = (rows * cols) as u32;

@@ -19,7 +19,7 @@ pub fn run(comparison: &mut Comparison, random: &mut Random) {
 fn small_sheets(comparison: &mut Comparison) {
     let sheets = [
         sheet(1, 4, &[1, 4, 16, 16], &[1]),
-        sheet(2, 3, &[0, 1, 2, 4, 8, 16], &[5, 0]),
+        sheet(2, 3, &[0, 1, 2, 255, 8, 16], &[5, 0]),
         sheet(2, 1, &[64, 128], &[]),
     ];
     for file in sheets {
@@ -107,10 +107,10 @@ fn written(comparison: &mut Comparison, random: &mut Random) {
                     0 => rows = random.pick(&SIDES),
                     1 => cols = random.pick(&SIDES),
                     2 => codes.truncate(random.below(codes.len().max(1))),
-                    3 => codes.extend([3, 255, 0]),
+                    3 => codes.extend([3, 254, 0]),
                     4 if !codes.is_empty() => {
                         let at = random.below(codes.len());
-                        codes[at] = random.pick(&[3, 255, 129, 7]);
+                        codes[at] = random.pick(&[3, 253, 254, 129, 7]);
                     }
                     5 => {
                         let count = random.pick(&[256, 257, 258, 400]);

@@ -14,7 +14,7 @@ pub use grids::every_pair;
 const TABLES: [u32; 3] = [1, 2, 3];
 
 pub fn run(comparison: &mut Comparison, random: &mut Random) {
-    spelled::nine_codes(comparison);
+    spelled::ten_codes(comparison);
     spelled::every_byte(comparison);
     grids::many_grids(comparison, random);
     grids::larger_grids(comparison, random);

@@ -1,4 +1,8 @@
-//! How many calls of each number each entry saw.
+//! How many calls of each number each entry saw, and what was seen of ponds.
+
+mod sights;
+
+use sights::Sights;
 
 const NUMBERS: usize = 25;
 
@@ -75,6 +79,7 @@ impl Entry {
 #[derive(Default)]
 pub struct Tally {
     counts: [[u64; NUMBERS]; ENTRIES.len()],
+    pub sights: Sights,
 }
 
 impl Tally {
@@ -86,14 +91,15 @@ impl Tally {
         self.counts.iter().flatten().sum()
     }
 
-    /// The entries and numbers that can come and were never seen.
-    pub fn unseen(&self) -> Vec<(Entry, u32)> {
+    /// The numbers of entries and the sights that can come and were never seen.
+    pub fn unseen(&self) -> Vec<String> {
         let possible = ENTRIES
             .into_iter()
             .flat_map(|entry| entry.numbers().iter().map(move |&number| (entry, number)));
-        possible
+        let numbers = possible
             .filter(|&(entry, number)| self.counts[entry as usize][number as usize] == 0)
-            .collect()
+            .map(|(entry, number)| format!("{number} of {}", entry.name()));
+        numbers.chain(self.sights.unseen().map(str::to_string)).collect()
     }
 
     pub fn print(&self) {
@@ -115,5 +121,6 @@ impl Tally {
         print!("   all");
         self.counts.iter().for_each(|counts| print!(" {:>10}", counts.iter().sum::<u64>()));
         println!(" {:>10}", self.calls());
+        self.sights.print();
     }
 }

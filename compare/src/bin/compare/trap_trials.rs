@@ -1,17 +1,20 @@
 //! Small grids and single calls with their answers spelled out by hand.
 
+mod pond_calls;
+mod ponds;
 mod single_calls;
 mod table;
 mod trap;
 
 use crate::calls::{Ask, Comparison, Engine, Rooms};
 use crate::table_trials::every_pair;
+use ponds::PONDS;
 use single_calls::{refusals, sheets, whole_flow_lengths, whole_subaccumulation};
 use table::TRAPS;
 use trap::Trap;
 
 pub fn run(comparison: &mut Comparison) {
-    for trap in &TRAPS {
+    for trap in TRAPS.iter().chain(&PONDS) {
         comparison.about(format!("trap: {}", trap.name));
         tracing(comparison, trap);
         drawing(comparison, trap);
@@ -22,6 +25,7 @@ pub fn run(comparison: &mut Comparison) {
     whole_flow_lengths(comparison);
     refusals(comparison);
     sheets(comparison);
+    pond_calls::ponds(comparison);
 }
 
 fn tracing(comparison: &mut Comparison, trap: &Trap) {

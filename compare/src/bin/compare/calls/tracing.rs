@@ -1,6 +1,7 @@
 //! Tracing by either engine.
 
 use second_reading::entries::{self, Terrain};
+use second_reading::ground::Ground;
 
 use super::Comparison;
 use crate::tally::Entry;
@@ -115,6 +116,11 @@ impl Comparison {
             tracing.number(),
             found,
         );
+        if tracing.number() == 0 {
+            let ground = Ground::new(rows, cols, codes.contents);
+            let outlet = outlets.contents[place] as usize;
+            self.tally.sights.count(ground, outlet, outlets.contents);
+        }
         Traced {
             number: tracing.number(),
             results: tracing.results(),

@@ -1,6 +1,6 @@
 //! Grounds of one walk, and full ones, each with its outlet.
 
-use second_reading::ground::NEIGHBOURS;
+use second_reading::ground::{NEIGHBOURS, POND};
 
 use crate::grounds::{code_of, Grid};
 
@@ -98,7 +98,8 @@ pub fn full(rows: usize, cols: usize, kind: &'static str) -> (Grid, u32) {
     (grid, 0)
 }
 
-/// The grid after quarter turns, with its outlet.
+/// The grid after quarter turns, with its outlet, whose walk ends. After an odd
+/// number it ends because the outlet is a pond.
 pub fn turned(grid: &Grid, outlet: u32, turns: usize) -> (Grid, u32) {
     let mut turned = (grid.clone(), outlet as usize);
     for _ in 0..turns {
@@ -108,5 +109,9 @@ pub fn turned(grid: &Grid, outlet: u32, turns: usize) -> (Grid, u32) {
         let outlet = col * quarter.cols + (quarter.cols - 1 - row);
         turned = (quarter, outlet);
     }
-    (turned.0, turned.1 as u32)
+    let (mut grid, outlet) = turned;
+    if turns % 2 == 1 {
+        grid.codes[outlet] = POND;
+    }
+    (grid, outlet as u32)
 }

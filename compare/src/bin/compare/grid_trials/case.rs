@@ -149,6 +149,7 @@ pub fn drawings(comparison: &mut Comparison, case: &Case, effort: usize, random:
         (0..4 * effort).map(|_| random.below(cells as usize) as u32).collect()
     };
     starts.extend([cells, u32::MAX, outlet | 1 << 31, random.pick(&case.outlets)]);
+    starts.extend((0..cells).find(|&cell| ground.is_pond(cell as usize)));
     starts.extend(ground.below(outlet as usize).map(|cell| cell as u32));
     starts.extend(ground.inflows(outlet as usize).map(|(_, cell)| cell as u32));
     for start in starts {

@@ -1,6 +1,6 @@
 //! What can be wrong with a call.
 
-use second_reading::ground::Ground;
+use second_reading::ground::{is_code, Ground, NULL, POND};
 use second_reading::random::Random;
 
 use super::case::Case;
@@ -85,7 +85,7 @@ const DAMAGES: [Damage; 24] = [
     }),
     ("other code", |case, random| {
         if let Some(cell) = Case::any_place(case.codes.len(), random) {
-            case.codes[cell] = random.pick(&[0, 1, 2, 4, 8, 16, 32, 64, 128]);
+            case.codes[cell] = random.pick(&[0, 1, 2, 4, 8, 16, 32, 64, 128, 255, 255]);
         }
     }),
     ("wrong accumulation", |case, random| {
@@ -118,11 +118,12 @@ const DAMAGES: [Damage; 24] = [
             *number = number.wrapping_add(more);
         }
     }),
-    ("accumulation at a null cell", |case, random| {
+    ("accumulation at a null cell or a pond", |case, random| {
         let last = case.codes.len().min(case.accumulation.len());
-        let null: Vec<usize> = (0..last).filter(|&cell| case.codes[cell] == 0).collect();
-        if !null.is_empty() {
-            case.accumulation[random.pick(&null)] = random.pick(&[1, 2, u32::MAX]);
+        let there: Vec<usize> =
+            (0..last).filter(|&cell| [NULL, POND].contains(&case.codes[cell])).collect();
+        if !there.is_empty() {
+            case.accumulation[random.pick(&there)] = random.pick(&[0, 1, 2, u32::MAX]);
         }
     }),
     ("no outlets", |case, _| case.outlets.clear()),
@@ -201,7 +202,7 @@ fn sound_ground(case: &Case) -> Option<Ground<'_>> {
     if case.rows == 0 || case.cols == 0 || case.codes.len() < cells {
         return None;
     }
-    let sound = case.codes[..cells].iter().all(|&code| code == 0 || code.is_power_of_two());
+    let sound = case.codes[..cells].iter().all(|&code| is_code(code));
     let ground = Ground::new(case.rows, case.cols, &case.codes);
     (sound && !ground.has_ring()).then_some(ground)
 }
@@ -226,4 +227,4 @@ fn odd_side(right: usize, random: &mut Random) -> usize {
     random.pick(&sides)
 }
 
-const BAD_CODES: [u8; 12] = [3, 5, 6, 7, 9, 24, 127, 129, 192, 200, 254, 255];
+const BAD_CODES: [u8; 12] = [3, 5, 6, 7, 9, 24, 127, 129, 192, 200, 253, 254];

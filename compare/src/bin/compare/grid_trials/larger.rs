@@ -19,14 +19,17 @@ pub fn larger_grids(comparison: &mut Comparison, random: &mut Random) {
         grounds::drainage(4096, 2, random),
         grounds::valleys(65, 64, random),
         grounds::valleys(64, 65, random),
+        grounds::with_ponds(grounds::valleys(66, 63, random), random),
         grounds::fan(80, 70, random),
         grounds::comb(100, 90, random).transposed(),
         grounds::serpent(150, 100, random),
+        grounds::pools(100, 100, random),
         grounds::slope(120, 120, random),
         grounds::noise(300, 200, random),
-        grounds::valleys(300, 200, random),
+        whole_valleys(300, 200, random),
         grounds::valleys(200, 300, random),
-        grounds::valleys(1024, 1024, random),
+        grounds::basins(200, 300, random),
+        whole_valleys(1024, 1024, random),
     ];
     for grid in grids {
         comparison.about(format!("larger {} {} x {}", grid.kind, grid.rows, grid.cols));
@@ -50,6 +53,16 @@ pub fn larger_grids(comparison: &mut Comparison, random: &mut Random) {
             if grid.cells() < 7000 {
                 damaged(comparison, &case, 3, random);
             }
+        }
+    }
+}
+
+/// Valleys without null cells, so that some are large.
+fn whole_valleys(rows: usize, cols: usize, random: &mut Random) -> Grid {
+    loop {
+        let grid = grounds::valleys(rows, cols, random);
+        if grid.ground().solid().count() == grid.cells() {
+            return grid;
         }
     }
 }

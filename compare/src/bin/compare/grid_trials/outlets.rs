@@ -12,7 +12,15 @@ pub fn outlets_for(grid: &Grid, accumulation: &[u32], random: &mut Random) -> Ve
     let ground = grid.ground();
     let mut solid: Vec<u32> = ground.solid().map(|cell| cell as u32).collect();
     let mouth = *solid.iter().max_by_key(|&&cell| accumulation[cell as usize]).expect("solid");
+    let mut ponds = solid.clone();
+    ponds.retain(|&cell| ground.is_pond(cell as usize));
     match random.below(8) {
+        0 if !ponds.is_empty() => {
+            // Ponds alone, all or some.
+            random.shuffle(&mut ponds);
+            ponds.truncate(random.pick(&[1, 1, 2, 9, 256]));
+            ponds
+        }
         0 | 1 => vec![mouth],
         2 => vec![random.pick(&solid)],
         3 => {
@@ -50,7 +58,7 @@ pub fn outlets_for(grid: &Grid, accumulation: &[u32], random: &mut Random) -> Ve
 /// Lists of 255 to 258 outlets, sound and with a null, far or repeated one at
 /// either end.
 pub fn outlet_edges(comparison: &mut Comparison, random: &mut Random) {
-    for kind in [grounds::slope, grounds::valleys, grounds::serpent] {
+    for kind in [grounds::slope, grounds::valleys, grounds::serpent, grounds::pools] {
         let mut grid = kind(20, 20, random);
         grid.codes[399] = 0;
         let accumulation = grid.ground().accumulation();

@@ -1,5 +1,6 @@
 //! Grids made cell by cell: each code for itself, or the same everywhere.
 
+use second_reading::ground::{NULL, POND};
 use second_reading::random::Random;
 
 use super::grid::{code_of, Grid};
@@ -8,7 +9,7 @@ use super::grid::{code_of, Grid};
 pub fn noise(rows: usize, cols: usize, random: &mut Random) -> Grid {
     let mut grid = Grid::null("noise", rows, cols);
     grid.codes.iter_mut().for_each(|code| *code = 1 << random.below(8));
-    grid.sprinkle(9, random);
+    grid.sprinkle(NULL, 9, random);
     grid
 }
 
@@ -16,7 +17,7 @@ pub fn noise(rows: usize, cols: usize, random: &mut Random) -> Grid {
 pub fn sparse_noise(rows: usize, cols: usize, random: &mut Random) -> Grid {
     let mut grid = noise(rows, cols, random);
     grid.kind = "sparse noise";
-    grid.sprinkle(2, random);
+    grid.sprinkle(NULL, 2, random);
     grid
 }
 
@@ -27,6 +28,14 @@ pub fn slope(rows: usize, cols: usize, random: &mut Random) -> Grid {
     for code in &mut grid.codes {
         *code = code_of((1, random.pick(&steps)));
     }
+    grid
+}
+
+/// A slope of which every other cell or so is a pond.
+pub fn pools(rows: usize, cols: usize, random: &mut Random) -> Grid {
+    let mut grid = slope(rows, cols, random);
+    grid.kind = "pools";
+    grid.sprinkle(POND, 2, random);
     grid
 }
 

@@ -1,5 +1,6 @@
 //! Grids drawn by rule: a comb, a fan, a serpent.
 
+use second_reading::ground::{NULL, POND};
 use second_reading::random::Random;
 
 use super::grid::{code_of, Grid};
@@ -26,8 +27,9 @@ pub fn comb(rows: usize, cols: usize, random: &mut Random) -> Grid {
     grid
 }
 
-/// All cells flow to one, diagonally first or straight first. Where that one
-/// lies inside, a neighbour is null so that its walk ends.
+/// All cells flow to one, diagonally first or straight first. That one is a
+/// pond, or else, where it lies inside, a neighbour is null so that its walk
+/// ends.
 pub fn fan(rows: usize, cols: usize, random: &mut Random) -> Grid {
     let mut grid = Grid::null("fan", rows, cols);
     let middle = random.below(grid.cells());
@@ -44,15 +46,20 @@ pub fn fan(rows: usize, cols: usize, random: &mut Random) -> Grid {
             code_of((down.signum(), right.signum()))
         };
     }
+    if random.one_in(3) {
+        grid.codes[middle] = POND;
+        return grid;
+    }
     let way = random.below(8);
     grid.codes[middle] = 1 << way;
     if let Some(next) = grid.neighbour(middle, way) {
-        grid.codes[next] = 0;
+        grid.codes[next] = NULL;
     }
     grid
 }
 
-/// One walk through all cells, row by row, at times cut.
+/// One walk through all cells, row by row, at times cut by a null cell or a
+/// pond.
 pub fn serpent(rows: usize, cols: usize, random: &mut Random) -> Grid {
     let mut grid = Grid::null("serpent", rows, cols);
     for row in 0..rows {
@@ -65,7 +72,7 @@ pub fn serpent(rows: usize, cols: usize, random: &mut Random) -> Grid {
     }
     if random.one_in(3) {
         let cut = random.below(grid.cells());
-        grid.codes[cut] = 0;
+        grid.codes[cut] = random.pick(&[NULL, POND]);
     }
     grid
 }

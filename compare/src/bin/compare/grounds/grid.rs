@@ -1,6 +1,6 @@
 //! A grid of codes: its cells, its neighbours, and the grid turned.
 
-use second_reading::ground::{Ground, NEIGHBOURS};
+use second_reading::ground::{way_of, Ground, NEIGHBOURS, NULL};
 use second_reading::random::Random;
 
 #[derive(Clone, Debug)]
@@ -14,7 +14,7 @@ pub struct Grid {
 impl Grid {
     /// A grid of null cells.
     pub fn null(kind: &'static str, rows: usize, cols: usize) -> Grid {
-        Grid { kind, rows, cols, codes: vec![0; rows * cols] }
+        Grid { kind, rows, cols, codes: vec![NULL; rows * cols] }
     }
 
     pub fn ground(&self) -> Ground<'_> {
@@ -29,17 +29,18 @@ impl Grid {
         self.ground().neighbour(cell, way)
     }
 
-    /// The ways from a cell that lead off the grid or to a null cell of
+    /// The codes that lead from a cell off the grid or to a null cell of
     /// `null`.
-    pub fn ends(&self, cell: usize, null: &[bool]) -> Vec<usize> {
-        (0..8).filter(|&way| self.neighbour(cell, way).is_none_or(|next| null[next])).collect()
+    pub fn ends(&self, cell: usize, null: &[bool]) -> Vec<u8> {
+        let ends = |&way: &usize| self.neighbour(cell, way).is_none_or(|next| null[next]);
+        (0..8).filter(ends).map(|way| 1 << way).collect()
     }
 
-    /// Makes one cell in `one_in` null; no ring can come of it.
-    pub fn sprinkle(&mut self, one_in: usize, random: &mut Random) {
+    /// Makes one cell in `one_in` null or a pond; no ring can come of it.
+    pub fn sprinkle(&mut self, null_or_pond: u8, one_in: usize, random: &mut Random) {
         for code in &mut self.codes {
             if random.one_in(one_in) {
-                *code = 0;
+                *code = null_or_pond;
             }
         }
     }
@@ -70,13 +71,10 @@ impl Grid {
     }
 }
 
-/// The code after its step's row and column change has been changed.
+/// The code after its step's row and column change has been changed. Null cells
+/// and ponds, which have no step, stay.
 fn changed(code: u8, change: impl Fn((isize, isize)) -> (isize, isize)) -> u8 {
-    if code == 0 {
-        return 0;
-    }
-    let step = change(NEIGHBOURS[code.trailing_zeros() as usize]);
-    code_of(step)
+    way_of(code).map_or(code, |way| code_of(change(NEIGHBOURS[way])))
 }
 
 /// The code of a step.

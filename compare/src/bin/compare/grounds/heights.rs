@@ -3,12 +3,13 @@
 use std::cmp::Reverse;
 use std::collections::BinaryHeap;
 
+use second_reading::ground::{NULL, POND};
 use second_reading::random::Random;
 
 use super::grid::{back, Grid};
 
 /// Each cell flows to a lower one of random heights, to the lowest or to any;
-/// hollows become null.
+/// hollows become null, or all of them ponds.
 pub fn drainage(rows: usize, cols: usize, random: &mut Random) -> Grid {
     let mut grid = Grid::null("drainage", rows, cols);
     let cells = grid.cells();
@@ -18,6 +19,7 @@ pub fn drainage(rows: usize, cols: usize, random: &mut Random) -> Grid {
         .map(|cell| (random.below(16) + tilt * (cell / cols + cell % cols), cell))
         .collect();
     let null = vec![false; cells];
+    let hollow = random.pick(&[NULL, POND]);
     for cell in 0..cells {
         let mut lower: Vec<usize> = (0..8)
             .filter(|&way| {
@@ -28,12 +30,11 @@ pub fn drainage(rows: usize, cols: usize, random: &mut Random) -> Grid {
             lower.sort_by_key(|&way| grid.neighbour(cell, way).map(|next| height[next]));
             lower.truncate(1);
         }
-        if lower.is_empty() {
-            lower = grid.ends(cell, &null);
+        let mut codes: Vec<u8> = lower.into_iter().map(|way| 1 << way).collect();
+        if codes.is_empty() {
+            codes = grid.ends(cell, &null);
         }
-        if !lower.is_empty() {
-            grid.codes[cell] = 1 << random.pick(&lower);
-        }
+        grid.codes[cell] = if codes.is_empty() { hollow } else { random.pick(&codes) };
     }
     grid
 }
@@ -41,7 +42,23 @@ pub fn drainage(rows: usize, cols: usize, random: &mut Random) -> Grid {
 /// Valleys of all sizes: heights by noise of halving reach, flooded from the
 /// edges and from null cells inward.
 pub fn valleys(rows: usize, cols: usize, random: &mut Random) -> Grid {
-    let mut grid = Grid::null("valleys", rows, cols);
+    flooded("valleys", (rows, cols), usize::MAX, random)
+}
+
+/// Valleys that are flooded from ponds as well, many or few.
+pub fn basins(rows: usize, cols: usize, random: &mut Random) -> Grid {
+    let pond_in = random.pick(&[10, 100, 1000]);
+    flooded("basins", (rows, cols), pond_in, random)
+}
+
+/// Valleys with one cell in `pond_in` a pond.
+fn flooded(
+    kind: &'static str,
+    (rows, cols): (usize, usize),
+    pond_in: usize,
+    random: &mut Random,
+) -> Grid {
+    let mut grid = Grid::null(kind, rows, cols);
     let cells = grid.cells();
     let mut height = vec![0u64; cells];
     let mut reach = rows.max(cols).next_power_of_two();
@@ -67,10 +84,14 @@ pub fn valleys(rows: usize, cols: usize, random: &mut Random) -> Grid {
     let mut flood = BinaryHeap::new();
     for cell in (0..cells).filter(|&cell| !null[cell]) {
         let ends = grid.ends(cell, &null);
-        if !ends.is_empty() && random.one_in(3) {
-            grid.codes[cell] = 1 << random.pick(&ends);
-            flood.push(Reverse((height[cell], cell)));
+        if random.one_in(pond_in) {
+            grid.codes[cell] = POND;
+        } else if !ends.is_empty() && random.one_in(3) {
+            grid.codes[cell] = random.pick(&ends);
+        } else {
+            continue;
         }
+        flood.push(Reverse((height[cell], cell)));
     }
     while let Some(Reverse((_, cell))) = flood.pop() {
         for way in 0..8 {

@@ -1,22 +1,28 @@
 //! Trees grown from their mouths, and a tree bent to a ring.
 
+use second_reading::ground::POND;
 use second_reading::random::Random;
 
 use super::grid::{back, Grid};
 
-/// Trees grown at random from a few cells whose walks end.
+/// Trees grown at random from a few cells whose walks end; at times many of
+/// these are ponds, and lie anywhere.
 pub fn forest(rows: usize, cols: usize, random: &mut Random) -> Grid {
     let mut grid = Grid::null("forest", rows, cols);
     let cells = grid.cells();
     let one_in = random.pick(&[4, 15, usize::MAX]);
     let null: Vec<bool> = (0..cells).map(|_| random.one_in(one_in)).collect();
     let roots = random.between(1, 1 + cells / 40);
+    let ponds = random.one_in(3);
     let mut grown = Vec::new();
     for _ in 0..4 * roots {
         let cell = random.below(cells);
-        let ends = grid.ends(cell, &null);
+        let mut ends = grid.ends(cell, &null);
+        if ponds {
+            ends.push(POND);
+        }
         if !null[cell] && grid.codes[cell] == 0 && !ends.is_empty() && grown.len() < roots {
-            grid.codes[cell] = 1 << random.pick(&ends);
+            grid.codes[cell] = random.pick(&ends);
             grown.push(cell);
         }
     }

@@ -46,7 +46,7 @@ const CODES: [Fault; 4] = [
         lent(call, cells).iter_mut().take(1).for_each(|code| *code = 9);
     }),
     ("a last code of no table", |call, cells| {
-        lent(call, cells).iter_mut().rev().take(1).for_each(|code| *code = 255);
+        lent(call, cells).iter_mut().rev().take(1).for_each(|code| *code = 254);
     }),
     ("a last code of another table", |call, cells| {
         let other = code_of_another(call.from);
@@ -97,8 +97,8 @@ pub fn together(comparison: &mut Comparison) {
 /// A call with codes that all tables have, and with places beyond them in both grids; what is lent
 /// there is no code of any table.
 fn sound(tables: (u32, u32), rows: usize, cols: usize, beyond: usize) -> Conversion {
-    let codes = [1, 2, 4, 8, 0].into_iter().cycle().take(rows * cols);
-    let codes: Vec<u8> = codes.chain([255].repeat(beyond)).collect();
+    let codes = [1, 2, 255, 4, 8, 0].into_iter().cycle().take(rows * cols);
+    let codes: Vec<u8> = codes.chain([254].repeat(beyond)).collect();
     Conversion::new(tables, rows, cols, &codes)
 }
 

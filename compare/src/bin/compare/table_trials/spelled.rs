@@ -3,21 +3,21 @@
 use super::pairs;
 use crate::calls::{Comparison, Conversion};
 
-/// The nine codes of a table: null, then E, SE, S, SW, W, NW, N, NE.
-pub fn codes_of(table: u32) -> [u8; 9] {
+/// The ten codes of a table: null, then E, SE, S, SW, W, NW, N, NE, then a pond.
+pub fn codes_of(table: u32) -> [u8; 10] {
     match table {
-        1 => [0, 1, 2, 4, 8, 16, 32, 64, 128],
-        2 => [0, 8, 7, 6, 5, 4, 3, 2, 1],
-        3 => [0, 5, 6, 7, 8, 1, 2, 3, 4],
+        1 => [0, 1, 2, 4, 8, 16, 32, 64, 128, 255],
+        2 => [0, 8, 7, 6, 5, 4, 3, 2, 1, 255],
+        3 => [0, 5, 6, 7, 8, 1, 2, 3, 4, 255],
         _ => panic!("no table has number {table}"),
     }
 }
 
-/// The nine codes in a row, in a column and in a square, between all pairs.
-pub fn nine_codes(comparison: &mut Comparison) {
+/// The ten codes in a row, in a column and in two rows, between all pairs.
+pub fn ten_codes(comparison: &mut Comparison) {
     for (from, to) in pairs() {
         comparison.about(format!("the codes of table {from} in table {to}"));
-        for (rows, cols) in [(1, 9), (9, 1), (3, 3)] {
+        for (rows, cols) in [(1, 10), (10, 1), (2, 5)] {
             let call = Conversion::new((from, to), rows, cols, &codes_of(from));
             let due = (0, codes_of(to).to_vec());
             assert_eq!(comparison.convert(&call), due, "{}", comparison.subject());
@@ -35,11 +35,11 @@ pub fn every_byte(comparison: &mut Comparison) {
             let due = codes.iter().position(|&code| code == byte).map(|place| others[place]);
             let call = Conversion::new((from, to), 1, 1, &[byte]);
             is_due(comparison, &call, due.map(|code| vec![code]));
-            for at in [0, 4, 8] {
-                let call = Conversion::new((from, to), 3, 3, &with(codes, at, byte));
+            for at in [0, 4, 9] {
+                let call = Conversion::new((from, to), 2, 5, &with(codes, at, byte));
                 is_due(comparison, &call, due.map(|code| with(others, at, code)));
             }
-            let mut call = Conversion::new((from, to), 3, 3, &codes);
+            let mut call = Conversion::new((from, to), 2, 5, &codes);
             call.codes.push(byte);
             is_due(comparison, &call, Some(others.to_vec()));
         }
@@ -47,7 +47,7 @@ pub fn every_byte(comparison: &mut Comparison) {
 }
 
 /// The codes with another one at a place.
-fn with(mut codes: [u8; 9], at: usize, code: u8) -> Vec<u8> {
+fn with(mut codes: [u8; 10], at: usize, code: u8) -> Vec<u8> {
     codes[at] = code;
     codes.to_vec()
 }
