@@ -4,6 +4,7 @@ use mathlib.Core.Bool.{true}
 use mathlib.Core.List.{List, [], _∷_, _++_}
 use Prim.Native.Nat.{ℕ, _^_}
 use lib.ListN.{replicate}
+use Rattle.lists.specs.Slices.{zeros}
 use Rattle.lengths.specs.declared.Order.the-variants.{Shorter, Longer}
 use Rattle.lengths.specs.Rule.{counts}
 use Rattle.answers.specs.Entries.{Catchment, catchment}
@@ -192,19 +193,19 @@ ponds =
     -- next to null: one walk ends at the pond, the other before the null cell
     ∷ traces (accumulated 1 4 (1 ∷ 255 ∷ 0 ∷ 16 ∷ []) (1 ∷ 3 ∷ [])) 0 (1 ∷ 2 ∷ 0 ∷ 1 ∷ 9 ∷ [])
     (ways 1 0 1 2 0 2 (0 ∷ 9 ∷ 9 ∷ []) ∷ ways 0 0 1 1 0 1 (3 ∷ 9 ∷ 9 ∷ []) ∷ [])
-    -- amid eight inflows: four paths end at it
-    ∷ measures pondOutlet 0 (lengthGrids
-    (0 ∷ 1 ∷ 0 ∷ 1 ∷ 0 ∷ 1 ∷ 0 ∷ 1 ∷ 0 ∷ 9 ∷ []) (1 ∷ 0 ∷ 1 ∷ 0 ∷ 0 ∷ 0 ∷ 1 ∷ 0 ∷ 1 ∷ 9 ∷ [])
-    (0 ∷ 0 ∷ 0 ∷ 0 ∷ 0 ∷ 0 ∷ 0 ∷ 0 ∷ 0 ∷ 9 ∷ []) (0 ∷ 0 ∷ 0 ∷ 0 ∷ 1 ∷ 0 ∷ 0 ∷ 0 ∷ 0 ∷ 9 ∷ []))
-    ∷ draws pondOutlet 0 8 (nines 3) 0 (8 ∷ 4 ∷ 9 ∷ []) (8 ∷ 4 ∷ [])
-    -- the same where it is no outlet: its cells and itself are in no subwatershed
+    -- amid eight inflows, where it is no outlet: its cells and itself are in no subwatershed
     ∷ traces pondBeside 0 (1 ∷ 1 ∷ 1 ∷ 3 ∷ 1 ∷ 9 ∷ 1 ∷ 2 ∷ 1 ∷ 1 ∷ 1 ∷ 1 ∷ 9 ∷ [])
     (ways 2 0 1 3 0 3 (11 ∷ 9 ∷ 9 ∷ []) ∷ [])
     ∷ measures pondBeside 0 (lengthGrids
-    (0 ∷ 0 ∷ 0 ∷ 0 ∷ 0 ∷ 0 ∷ 0 ∷ 1 ∷ 0 ∷ 0 ∷ 0 ∷ 2 ∷ 9 ∷ []) (0 ∷ 0 ∷ 0 ∷ 0 ∷ 0 ∷ 0 ∷ 0 ∷ 0 ∷ 0 ∷ 0 ∷ 0 ∷ 0 ∷ 9 ∷ [])
-    (0 ∷ 0 ∷ 0 ∷ 2 ∷ 0 ∷ 0 ∷ 0 ∷ 1 ∷ 0 ∷ 0 ∷ 0 ∷ 0 ∷ 9 ∷ []) (0 ∷ 0 ∷ 0 ∷ 0 ∷ 0 ∷ 0 ∷ 0 ∷ 0 ∷ 0 ∷ 0 ∷ 0 ∷ 0 ∷ 9 ∷ []))
+    (0 ∷ 0 ∷ 0 ∷ 0 ∷ 0 ∷ 0 ∷ 0 ∷ 1 ∷ 0 ∷ 0 ∷ 0 ∷ 2 ∷ 9 ∷ []) (zeros 12 ++ (9 ∷ []))
+    (0 ∷ 0 ∷ 0 ∷ 2 ∷ 0 ∷ 0 ∷ 0 ∷ 1 ∷ 0 ∷ 0 ∷ 0 ∷ 0 ∷ 9 ∷ []) (zeros 12 ++ (9 ∷ [])))
     ∷ draws pondBeside 0 0 (nines 3) 22 (nines 3) []
     ∷ draws pondBeside 0 5 (nines 3) 22 (nines 3) []
+    -- as outlet: four paths end at it
+    ∷ measures pondOutlet 0 (lengthGrids
+    (0 ∷ 1 ∷ 0 ∷ 1 ∷ 0 ∷ 1 ∷ 0 ∷ 1 ∷ 0 ∷ 9 ∷ []) (1 ∷ 0 ∷ 1 ∷ 0 ∷ 0 ∷ 0 ∷ 1 ∷ 0 ∷ 1 ∷ 9 ∷ [])
+    (zeros 9 ++ (9 ∷ [])) (0 ∷ 0 ∷ 0 ∷ 0 ∷ 1 ∷ 0 ∷ 0 ∷ 0 ∷ 0 ∷ 9 ∷ []))
+    ∷ draws pondOutlet 0 8 (nines 3) 0 (8 ∷ 4 ∷ 9 ∷ []) (8 ∷ 4 ∷ [])
     ∷ eachWay (λ way. calls way pondOutlet 0 (nines 5) 28 (found 0 1 4 9 0)
     (1 ∷ 1 ∷ 1 ∷ 1 ∷ 9 ∷ 1 ∷ 1 ∷ 1 ∷ 1 ∷ 9 ∷ []) (8 ∷ 6 ∷ 0 ∷ 2 ∷ 9 ∷ []) (wiped 27 way))
 
