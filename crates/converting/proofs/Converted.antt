@@ -1,4 +1,4 @@
--- What the converter tells, by the number of the checks and by what was looked up.
+-- What the converter tells, by the number of the checks and by the counterparts.
 -- Assumes nothing.
 use mathlib.Core.Path.{_≡_, refl, sym, ap, _∙_, subst}
 use mathlib.Core.Bool.{true, false, _&&_}
@@ -22,21 +22,22 @@ use Rattle.answers.specs.Converting.{Conversion, source, convertNumber, convert
 use Rattle.answers.proofs.FirstFailed.{passed}
 use Rattle.moves.proofs.Spots.{size}
 use Rattle.checks.proofs.Passed.{Sized, sized}
-use Rattle.converting.specs.LookUp.{Pairs, LooksUp, Readable, Rewritten}
+use Rattle.converting.specs.Rewriting.{counterpart, Pairs, Readable, Rewritten}
+use Rattle.converting.proofs.Rewriting.{counterpart-at}
 
--- the codes of two tables, as they are looked up
-pub pairs : (from to : Table) {a b : List ℕ} → a ≡ codesOf from → b ≡ codesOf to → Pairs a b
-pairs from to e f = record { from-length = rw e; to-length = rw f; are-different = rw e (from .apart) }
+-- the codes of two tables, place by place
+pairs : (from to : Table) {a b : List ℕ} → a ≡ codesOf from → b ≡ codesOf to → Pairs a b
+pairs from to e f = record { from-length = rw e; to-length = rw f }
 
--- what is looked up for a code is its code in the other table
-pub looked : (from to : Table) {a b found : List ℕ} → a ≡ codesOf from → b ≡ codesOf to → LooksUp 10 a b found
-    → (code : ℕ) → isCode from code ≡ true → getD found code 0 ≡ recoded from to code
+-- the counterpart of a code is its code in the other table
+counterpart-recoded : (from to : Table) {a b : List ℕ} → a ≡ codesOf from → b ≡ codesOf to → (code : ℕ)
+    → isCode from code ≡ true → counterpart 10 a b code ≡ recoded from to code
 unfolding isCode
-looked from to {a} {b} {found} e f l code is-code =
+counterpart-recoded from to {a} {b} e f code is-code =
     let p = position-of code (codesOf from) is-code in
-    let i : p .at < 10 = p .inside in
-    ap (λ (x : ℕ). getD found x 0) (sym (p .holds) ∙ ap (λ (xs : List ℕ). getD xs (p .at) 0) (sym e))
-    ∙ l .holds (p .at) i
+    let all : 10 ≤ length (codesOf from) = omega arith in
+    ap (λ (xs : List ℕ). counterpart 10 xs b code) e
+    ∙ counterpart-at (codesOf from) b (from .apart) (p .at) code (p .holds) 10 (p .inside) all
     ∙ ap (λ (xs : List ℕ). getD xs (p .at) 0) (f ∙ sym (recoded-codes from to))
     ∙ getD-map (recoded from to) (codesOf from) (p .at) 0 (p .inside)
     ∙ ap (recoded from to) (p .holds)
@@ -74,17 +75,18 @@ module _ (c : Conversion) (old : List ℕ) where
       pub fits : cellCount g ≤ 4096 * 4096
       fits = size (sizes .grid .sides)
 
-      pub readable : {n : ℕ} {found : List ℕ} → n ≡ cellCount g → length found ≡ 256 → Readable n found (g .codes) old
-      readable e l = record {
-        is-long = l;
+      pub readable : {n : ℕ} {a b : List ℕ} → n ≡ cellCount g → a ≡ codesOf (g .table) → b ≡ codesOf (tableOf (c .to))
+          → Readable n a b (g .codes) old
+      readable e p q = record {
+        pairs = pairs (g .table) (tableOf (c .to)) p q;
         has-codes = omega (arith, e, sizes .grid .has-codes);
         has-places = omega (arith, e, sizes .reach (length old) (inl refl));
       }
 
-      pub told : {a b found new : List ℕ} → a ≡ codesOf (g .table) → b ≡ codesOf (tableOf (c .to))
-          → LooksUp 10 a b found → Rewritten (cellCount g) (cellCount g) found (g .codes) old new → Converts c old 0 new
+      pub told : {a b new : List ℕ} → a ≡ codesOf (g .table) → b ≡ codesOf (tableOf (c .to))
+          → Rewritten (cellCount g) (cellCount g) a b (g .codes) old new → Converts c old 0 new
       unfolding convertLeaves
-      told {a} {b} {found} {new} e f l w = record { answers = sym z ∙ number-is; leaves = over ∙ rw (sym number-is ∙ z) }
+      told {a} {b} {new} e f w = record { answers = sym z ∙ number-is; leaves = over ∙ rw (sym number-is ∙ z) }
         where
           to : Table
           to = tableOf (c .to)
@@ -96,5 +98,5 @@ module _ (c : Conversion) (old : List ℕ) where
           over = front-is (convertedCodes g to) (omega (arith, long, sizes .reach (length old) (inl refl)))
               (subst (λ (n : ℕ). Kept n old new) (sym long) (w .kept))
               (λ x h. let i : x < cellCount g = omega (arith, h, long) in
-              w .looked-up x i ∙ looked (g .table) to e f l (getD (g .codes) x 0) (codes-in x i)
+              w .are-counterparts x i ∙ counterpart-recoded (g .table) to e f (getD (g .codes) x 0) (codes-in x i)
               ∙ sym (converted-at g to (sizes .grid .has-codes) x i))

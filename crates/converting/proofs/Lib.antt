@@ -1,2 +1,2 @@
-pub mod LookUp
+pub mod Rewriting
 pub mod Converted

@@ -1,36 +1,39 @@
 // Grids of other packages: codes from one table to another.
 use checks::number_in;
-use lists::byte_value;
 use tables::codes_of;
 use tables::is_table;
+ghost use mathlib.Core.Path.{_≡_};
 ghost use Rattle.answers.specs.Converting.{conversion, Converts};
-ghost use Rattle.converting.specs.LookUp.{Pairs, LooksUp, Readable, Rewritten};
+ghost use Rattle.converting.specs.Rewriting.{counterpart, Pairs, Readable, Rewritten};
 
-// For each code of one table the code of the other that stands at the same place.
-fn look_up(from: &[u8; 10], to: &[u8; 10]) -> [u8; 256]
+// The code of one table at the place where the other has this code. No code ends the loop, so that several can be
+// converted at once.
+fn counterpart_of(from: &[u8; 10], to: &[u8; 10], code: u8) -> u8
     requires { ⌜ Pairs (now from) (now to) ⌝ }
-    ensures { λ r. ⌜ LooksUp 10 (now (from .entry)) (now (to .entry)) r ⌝ }
+    ensures { λ r. ⌜ r ≡ counterpart 10 (now (from .entry)) (now (to .entry)) code ⌝ }
 {
-    let mut found = [0u8; 256];
+    let mut found: u8 = 0;
     let mut k: usize = 0;
     while k < 10 {
-        let code = byte_value(from[k]);
-        found[code] = to[k];
+        let known = from[k];
+        let other = to[k];
         k += 1;
+        if known == code {
+            found = other;
+        }
     }
     found
 }
 
-// Looks up each of the first n codes.
-fn rewrite(found: &[u8; 256], n: usize, codes: &[u8], converted: &mut [u8])
-    requires { ⌜ Readable n (now found) (now codes) (now converted) ⌝ }
-    ensures { λ _. ⌜ Rewritten n n (now (found .entry)) (now (codes .entry)) (now (converted .entry))
+// Writes the counterpart of each of the first n codes.
+fn rewrite(from: &[u8; 10], to: &[u8; 10], n: usize, codes: &[u8], converted: &mut [u8])
+    requires { ⌜ Readable n (now from) (now to) (now codes) (now converted) ⌝ }
+    ensures { λ _. ⌜ Rewritten n n (now (from .entry)) (now (to .entry)) (now (codes .entry)) (now (converted .entry))
         (now (converted .exit)) ⌝ }
 {
     let mut at: usize = 0;
     while at < n {
-        let code = byte_value(codes[at]);
-        converted[at] = found[code];
+        converted[at] = counterpart_of(from, to, codes[at]);
         at += 1;
     }
 }
@@ -60,7 +63,6 @@ pub fn convert(
         return number;
     }
     let target = codes_of(to);
-    let found = look_up(&source, &target);
-    rewrite(&found, rows * cols, codes, converted);
+    rewrite(&source, &target, rows * cols, codes, converted);
     0
 }

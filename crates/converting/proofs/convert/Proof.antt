@@ -2,7 +2,8 @@
 -- Assumes nothing.
 use mathlib.Core.Path.{_≡_, refl, sym, _∙_}
 use mathlib.Core.Bool.{true, _&&_}
-use mathlib.Core.List.{[], _∷_}
+use mathlib.Core.List.{List, [], _∷_}
+use Prim.Native.Nat.{ℕ}
 use native.Mathlib.Omega.{arith}
 use lib.ListN.{length}
 use borrow.Author.Needs.{needs}
@@ -11,13 +12,18 @@ use Rattle.ground.specs.Tables.{isTable, tableOf}
 use Rattle.answers.specs.Checks.{firstFailed}
 use Rattle.answers.specs.Entries.{gridChecks}
 use Rattle.answers.specs.Converting.{Conversion, conversion, source}
-use Rattle.converting.proofs.Converted.{pairs, not-tables, refused, fits, readable, told}
+use Rattle.converting.proofs.Converted.{not-tables, refused, fits, readable, told}
 use Rattle.converting.proofs.convert.Statement.{statement}
 use Rattle.converting.proofs.convert.Tie as tie
 
--- the call, once both tables are known
+-- the call, once both tables are known, and the grid that is to be written
 abbrev call : tie.Else2 → Conversion
-call e = let a = e .before .before .before .before .before .before .args in conversion (a .from) (a .to) (a .rows) (a .cols) (a .codes .now)
+call e =
+    let a = e .before .before .before .before .before .before .args in
+    conversion (a .from) (a .to) (a .rows) (a .cols) (a .codes .now)
+
+abbrev lent : tie.Else2 → List ℕ
+lent e = e .before .before .before .before .before .before .args .converted .now
 
 are-tables : (e : tie.Else2) → (isTable (call e .from) && isTable (call e .to)) ≡ true
 are-tables e =
@@ -29,8 +35,10 @@ are-tables e =
 
 -- and the checks that follow
 number-is : (n : tie.After-number-in) → let e = n .before .before .before .before in
-    n .number-in .result ≡ firstFailed (gridChecks (source (call e)) (length (e .before .before .before .before .before .before .args .converted .now) ∷ []))
-number-is n = n .number-in .ensures (tableOf (call (n .before .before .before .before) .from)) (n .before .before .before .codes-of .ensures)
+    n .number-in .result ≡ firstFailed (gridChecks (source (call e)) (length (lent e) ∷ []))
+number-is n =
+    n .number-in .ensures (tableOf (call (n .before .before .before .before) .from))
+    (n .before .before .before .codes-of .ensures)
 
 is-table-requires : tie.Need-is-table-requires
 is-table-requires c κs = search needs
@@ -67,38 +75,39 @@ returns-3 : tie.Need-returns-3
 returns-3 c =
     let n = c .before in
     let e = n .before .before .before .before in
-    refused (call e) (e .before .before .before .before .before .before .args .converted .now) (are-tables e) (number-is n) (c .if3 .taken)
+    refused (call e) (lent e) (are-tables e) (number-is n) (c .if3 .taken)
 
 codes-of-requires-2 : tie.Need-codes-of-requires-2
 codes-of-requires-2 c κs = search needs
 
-look-up-requires : tie.Need-look-up-requires
-look-up-requires c κs =
-    let a = c .before .before .before .before .before .before .before .before .before .before .before .before .before .before .args in
-    pairs (tableOf (a .from)) (tableOf (a .to)) (c .before .before .before .before .before .before .before .codes-of .ensures) (c .before .before .codes-of2 .ensures)
+-- where all checks are passed: the place at which both tables were known
+abbrev known : tie.Else3 → tie.Else2
+known f = f .before .before .before .before .before
 
 mul-rewrite : tie.Need-mul-rewrite
 mul-rewrite c =
-    let n = c .before .before .before .before .before .before in
-    let e = n .before .before .before .before in
-    omega (arith, fits (call e) (e .before .before .before .before .before .before .args .converted .now) (are-tables e) (number-is n) (c .before .before .before .before .before .if3 .left))
+    let f = c .before .before .before in
+    let e = known f in
+    omega (arith, fits (call e) (lent e) (are-tables e) (number-is (f .before)) (f .if3 .left))
 
 rewrite-requires : tie.Need-rewrite-requires
 rewrite-requires c κs =
-    let n = c .before .before .before .before .before .before .before in
-    let e = n .before .before .before .before in
-    readable (call e) (e .before .before .before .before .before .before .args .converted .now) (are-tables e) (number-is n) (c .before .before .before .before .before .before .if3 .left) refl
-    (c .before .before .look-up .ensures .is-long)
+    let to = c .before .before .before in
+    let f = to .before in
+    let e = known f in
+    readable (call e) (lent e) (are-tables e) (number-is (f .before)) (f .if3 .left) refl
+    (f .before .before .before .before .codes-of .ensures) (to .codes-of2 .ensures)
 
 same-length : tie.Need-same-length
 same-length c = search needs
 
 returns-4 : tie.Need-returns-4
 returns-4 c =
-    let n = c .before .before .before .before .before .before .before .before .before .before in
-    let e = n .before .before .before .before in
-    told (call e) (e .before .before .before .before .before .before .args .converted .now) (are-tables e) (number-is n) (c .before .before .before .before .before .before .before .before .before .if3 .left)
-    (n .before .before .before .codes-of .ensures) (c .before .before .before .before .before .before .before .before .codes-of2 .ensures) (c .before .before .before .before .before .look-up .ensures) (c .before .before .rewrite .ensures)
+    let to = c .before .before .before .before .before .before in
+    let f = to .before in
+    let e = known f in
+    told (call e) (lent e) (are-tables e) (number-is (f .before)) (f .if3 .left)
+    (f .before .before .before .before .codes-of .ensures) (to .codes-of2 .ensures) (c .before .before .rewrite .ensures)
 
 pub convert-spec : {M : Type 1} → statement M
 convert-spec =
@@ -113,7 +122,6 @@ convert-spec =
     number-in-requires
     returns-3
     codes-of-requires-2
-    look-up-requires
     mul-rewrite
     rewrite-requires
     same-length
