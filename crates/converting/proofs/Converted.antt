@@ -25,7 +25,7 @@ use Rattle.checks.proofs.Passed.{Sized, sized}
 use Rattle.converting.specs.Rewriting.{counterpart, Pairs, Readable, Rewritten}
 use Rattle.converting.proofs.Rewriting.{counterpart-at}
 
--- the codes of two tables, place by place
+-- the codes of two tables stand beside each other
 pairs : (from to : Table) {a b : List ℕ} → a ≡ codesOf from → b ≡ codesOf to → Pairs a b
 pairs from to e f = record { from-length = rw e; to-length = rw f }
 

@@ -13,7 +13,7 @@ unfoldable pub counterpart : ℕ → List ℕ → List ℕ → ℕ → ℕ
 counterpart zero from to code = 0
 counterpart (suc k) from to code = cond (eqb (getD from k 0) code) (getD to k 0) (counterpart k from to code)
 
--- the codes of two tables, place by place
+-- two lists of ten codes, so that each code of the one has one of the other beside it
 pub record Pairs (from to : List ℕ) : Type 0 where
   pub from-length : length from ≡ 10
   pub to-length : length to ≡ 10
