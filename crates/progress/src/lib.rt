@@ -6,6 +6,7 @@ ghost use mathlib.Core.Path.{_≡_};
 ghost use mathlib.Core.Bool.{_&&_};
 ghost use Prim.Native.Nat.{_+_, _-_, _≤_, _<_, _^_};
 ghost use lib.ListN.{length, set};
+ghost use Rattle.lengths.specs.Lengths.{squareCells, farthest};
 ghost use Rattle.progress.specs.Starts.{progressOf, begun, isBelow, Room, Met, Visited};
 
 // The greatest length met and how many starts have it, the cells visited and the cells dropped. The starts themselves
@@ -116,9 +117,10 @@ pub fn drop_cells(p: Progress, n: u32) -> Progress
     }
 }
 
-// Is a neighbour of this limit to be dropped? Not before a length is met, and not at a tie.
-pub fn is_dropped(dropping: bool, limit: Length, p: Progress) -> bool
-    ensures { λ r. ⌜ r ≡ (dropping && isBelow limit p) ⌝ }
+// Is a neighbour of n cells above this length to be dropped? Not before a length is met, and not at a tie.
+pub fn is_dropped(dropping: bool, len: Length, n: u32, p: Progress) -> bool
+    requires { ⌜ (len .diagonal ≤ 2 ^ 24) × (n ≤ 2 ^ 24) ⌝ }
+    ensures { λ r. ⌜ r ≡ (dropping && isBelow (farthest squareCells len n) p) ⌝ }
 {
     if !dropping {
         return false;
@@ -127,7 +129,7 @@ pub fn is_dropped(dropping: bool, limit: Length, p: Progress) -> bool
         return false;
     }
     let greatest = p.greatest;
-    match limit.compare(greatest) {
+    match len.farthest(n).compare(greatest) {
         Order::Shorter => true,
         Order::Same => false,
         Order::Longer => false,

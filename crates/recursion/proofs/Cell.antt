@@ -16,7 +16,7 @@ use Rattle.ground.specs.Accumulation.{subaccumulation}
 use Rattle.ground.specs.Forest.{forest}
 use Rattle.ground.proofs.Ground.{sub-size}
 use Rattle.moves.proofs.Spots.{size}
-use Rattle.search.specs.Search.{State, meetIf, Rule, firstRule, visit}
+use Rattle.search.specs.Search.{State, meetIf, Rule, tracingRule, visit}
 use Rattle.search.specs.Neighbours.{cellsIn, turnTo, enter}
 use Rattle.search.proofs.Neighbours.{visit-is, cells-above, search-enters}
 use Rattle.progress.specs.declared.Progress.{Progress}
@@ -92,7 +92,7 @@ module _ {rows cols : ℕ} {codes outlets subaccumulations : List ℕ}
       }
         where
           rule : Rule squares
-          rule = firstRule squares dropping
+          rule = tracingRule squares dropping
 
           met : ℕ → State squares
           met m = record {
@@ -129,7 +129,7 @@ module _ {rows cols : ℕ} {codes outlets subaccumulations : List ℕ}
         (subst (λ l. CellTraced rows cols codes outlets dropping row col l p old r new) no-step t) in
         record {
           searched = record {
-            state = c .state ∙ sym (search-enters squares (firstRule squares dropping) g outlets (ready .lent)
+            state = c .state ∙ sym (search-enters squares (tracingRule squares dropping) g outlets (ready .lent)
                 (ready .agreed) (row * cols + col) (at .solid));
             all-cells = omega (arith, c .counted .cells-done);
             few-paths = c .counted .few-paths;

@@ -17,7 +17,7 @@ use Rattle.ground.specs.Grid.{Grid, gridOf, codeAt, ground}
 use Rattle.ground.specs.Accumulation.{subaccumulation}
 use Rattle.ground.proofs.Cells.{code-inside}
 use Rattle.moves.specs.Moves.{dirAt, leadOf, stepBy}
-use Rattle.search.specs.Search.{State, Rule, firstRule, drops, dropCells}
+use Rattle.search.specs.Search.{State, Rule, tracingRule, drops, dropCells}
 use Rattle.search.specs.Neighbours.{inflowIn, cellsIn, turnTo, enter}
 use Rattle.search.proofs.Neighbours.{
   Found,
@@ -31,7 +31,6 @@ use Rattle.search.proofs.Neighbours.{
 }
 use Rattle.progress.specs.declared.Progress.{Progress}
 use Rattle.progress.specs.Starts.{isBelow, startsOf, stateOf}
-use Rattle.progress.proofs.Kept.{below-starts}
 use Rattle.upstream.specs.Ready.{Ready}
 use Rattle.upstream.proofs.Entering.{one-step, own-step, drops-by}
 use Rattle.recursion.specs.declared.Turn.{Turn}
@@ -91,7 +90,7 @@ module _ {rows cols : ℕ} {codes outlets subaccumulations : List ℕ}
   g = gridOf rows cols codes
 
   abbrev rule : Rule squares
-  rule = firstRule squares dropping
+  rule = tracingRule squares dropping
 
   abbrev sub : ℕ → ℕ
   sub z = subaccumulation g outlets z
@@ -175,11 +174,9 @@ module _ {rows cols : ℕ} {codes outlets subaccumulations : List ℕ}
         ≡ turnTo squares rule g outlets (dirAt (t .k) ∷ drop (t .k + 1) dirs) x len st
     opened = turned .0 ∙ ap (λ ds. turnTo squares rule g outlets ds x len st) (dirs-from (t .k) h ∙ rw (add-one (t .k)))
 
-    module _ {b : Bool} {limit : Length} (is-limit : limit ≡ farthest squareCells len (t .cells))
-        (tests : b ≡ (dropping && isBelow limit p)) where
+    module _ {b : Bool} (tests : b ≡ (dropping && isBelow (farthest squareCells len (t .cells)) p)) where
       test : b ≡ drops squares rule (startsOf p old 4096) len (opposite (dirAt (t .k))) (sub y)
-      test = tests ∙ ap (λ (x : Bool). dropping && x) (below-starts limit p old 4096)
-          ∙ drops-by dropping (startsOf p old 4096) len (opposite (dirAt (t .k))) (t .cells) is-limit
+      test = tests ∙ drops-by dropping p old 4096 len (opposite (dirAt (t .k))) (t .cells)
           ∙ ap (drops squares rule (startsOf p old 4096) len (opposite (dirAt (t .k)))) cells-are
 
       -- it is dropped

@@ -13,7 +13,7 @@ use Rattle.ground.specs.Grid.{gridOf, ground}
 use Rattle.ground.specs.Accumulation.{subaccumulation}
 use Rattle.moves.specs.Lent.{OnCell}
 use Rattle.moves.specs.Moves.{dirAt, leadOf, stepBy}
-use Rattle.search.specs.Search.{State, firstRule}
+use Rattle.search.specs.Search.{State, tracingRule}
 use Rattle.search.specs.Neighbours.{inflowIn, cellsIn, turnTo, enter}
 use Rattle.progress.specs.declared.Progress.{Progress}
 use Rattle.progress.specs.Starts.{stateOf, Visited}
@@ -88,7 +88,7 @@ pub record Counted (cells : ℕ) (p r : Progress) : Type 0 where
 pub record CellTraced (rows cols : ℕ) (codes outlets : List ℕ) (dropping : Bool) (row col : ℕ) (len : Length)
     (p : Progress) (old : List ℕ) (r : Progress) (new : List ℕ) : Type 0 where
   pub state : _≡_ {A = State squares} (stateOf r new 4096)
-      (enter squares (firstRule squares dropping) (gridOf rows cols codes) outlets (row * cols + col) len
+      (enter squares (tracingRule squares dropping) (gridOf rows cols codes) outlets (row * cols + col) len
       (stateOf p old 4096))
   pub room : length new ≡ 4096
   pub counted : Counted (subaccumulation (gridOf rows cols codes) outlets (row * cols + col)) p r
@@ -97,7 +97,7 @@ pub record CellTraced (rows cols : ℕ) (codes outlets : List ℕ) (dropping : B
 pub record InflowsTraced (rows cols : ℕ) (codes outlets : List ℕ) (dropping : Bool) (row col : ℕ) (len : Length)
     (k : ℕ) (p : Progress) (old : List ℕ) (r : Progress) (new : List ℕ) : Type 0 where
   pub state : _≡_ {A = State squares} (stateOf r new 4096)
-      (turnTo squares (firstRule squares dropping) (gridOf rows cols codes) outlets (drop k dirs) (row * cols + col)
+      (turnTo squares (tracingRule squares dropping) (gridOf rows cols codes) outlets (drop k dirs) (row * cols + col)
       len (stateOf p old 4096))
   pub room : length new ≡ 4096
   pub counted : Counted (cellsIn (gridOf rows cols codes) outlets (drop k dirs) (row * cols + col)) p r

@@ -170,7 +170,7 @@ fn trace_inflows(
         return p;
     }
     let left = t.k + 1;
-    if is_dropped(dropping, len.farthest(t.cells), p) {
+    if is_dropped(dropping, len, t.cells, p) {
         let q = drop_cells(p, t.cells);
         return trace_inflows(
             rows,

@@ -21,7 +21,7 @@ use Rattle.search.specs.Search.{
   fresh,
   meetIf,
   Rule,
-  firstRule,
+  tracingRule,
   drops,
   dropCells,
   visit,
@@ -101,10 +101,10 @@ module _ (𝓛 : Lengths Dir) (rule : Rule 𝓛) (g : Grid) (outlets : List ℕ)
       (forest-equation g a h outlets o v ∙ ap (grow (inflows g) (λ c. member c outlets) (forest g outlets))
       (ground-inflows g o v))
 
--- by 01's rule a cell meets its length if its subaccumulation is 1
+-- in a tracing a cell meets its length if its subaccumulation is 1
 pub visit-is : (𝓛 : Lengths Dir) (dropping : Bool) (g : Grid) (outlets a : List ℕ) → agrees g a ≡ true
     → (st : State 𝓛) (y : ℕ) (l : 𝓛 .Len) → ground g y ≡ true
-    → visit 𝓛 (firstRule 𝓛 dropping) st y l (forest g outlets y)
+    → visit 𝓛 (tracingRule 𝓛 dropping) st y l (forest g outlets y)
     ≡ record {
       starts = meetIf 𝓛 (isHeadwater g outlets y) (st .starts) (record { cell = y; len = l });
       visited = st .visited + 1;

@@ -51,17 +51,27 @@ module _ {S : Type 0} (𝓛 : Lengths S) where
   belowGreatest [] l = false
   belowGreatest (g ∷ gs) l = shorter l (g .len)
 
-  -- how a search goes: with or without dropping; the limit of a neighbour with n cells, entered by a step from a cell
-  -- at length d; and at which cells it meets a length
+  -- the limit of a neighbour with n cells, entered by a step from a cell at length d: no walk into it is longer
+  abbrev pub Limit : Type 0
+  Limit = Len → S → ℕ → Len
+
+  -- how a search goes: with or without dropping, by which limit, and at which cells it meets a length
   pub record Rule : Type 0 where
     pub dropping : Bool
-    pub limit : Len → S → ℕ → Len
+    pub limit : Limit
     pub meets : Which S
 
-  -- 01's: lengths are met at headwaters, and n cells beyond length d reach d + n√2 at most, the step counted among the
-  -- n
+  -- 01's limit: n cells beyond length d reach d + n√2 at most, the step counted among the n
+  abbrev pub firstLimit : Limit
+  firstLimit d s n = farthest 𝓛 d n
+
+  -- 01's rule: lengths are met at headwaters
   abbrev pub firstRule : Bool → Rule
-  firstRule dropping = record { dropping = dropping; limit = λ d s n. farthest 𝓛 d n; meets = headwater }
+  firstRule dropping = record { dropping = dropping; limit = firstLimit; meets = headwater }
+
+  -- the rule of every tracing
+  abbrev pub tracingRule : Bool → Rule
+  tracingRule = firstRule
 
   -- 01: a neighbour with its n cells is dropped if even its limit is shorter than the greatest length met; at equal
   -- length it is not, since it may tie

@@ -15,7 +15,7 @@ use Rattle.ground.specs.Grid.{Grid, ground}
 use Rattle.ground.specs.Accumulation.{agrees, subaccumulation}
 use Rattle.ground.proofs.Cells.{ground-within}
 use Rattle.ground.proofs.Ground.{sub-size}
-use Rattle.search.specs.Search.{State, firstRule, drops, dropCells}
+use Rattle.search.specs.Search.{State, tracingRule, drops, dropCells}
 use Rattle.search.specs.Neighbours.{inflowIn, cellsIn, turnTo, enter}
 use Rattle.search.proofs.Neighbours.{Found, found-in, found-ground, turn-done, turn-none, turn-drops, turn-enters}
 use Rattle.stack.specs.declared.Pending.{Pending}
@@ -48,14 +48,14 @@ module _ (g : Grid) (outlets : List ℕ) where
 
     module _ (y : ℕ) (below : Length) (st : State squares) where
       abbrev test : Bool
-      test = drops squares (firstRule squares dropping) (st .starts) below E (sub y)
+      test = drops squares (tracingRule squares dropping) (st .starts) below E (sub y)
 
       pub taken-drops : test ≡ true → taken g outlets dropping y below st ≡ dropCells squares st (sub y)
       unfolding taken
       taken-drops e = rw (e, taken)
 
       pub taken-enters : test ≡ false → taken g outlets dropping y below st
-          ≡ enter squares (firstRule squares dropping) g outlets y (ownLength g y below) st
+          ≡ enter squares (tracingRule squares dropping) g outlets y (ownLength g y below) st
       unfolding taken
       taken-enters e = rw (e, taken)
 
@@ -77,7 +77,7 @@ module _ (g : Grid) (outlets : List ℕ) where
       -- what the search makes of some neighbours, their cells, and that they wait
       pub record Follows (ds : List Dir) : Type 0 where
         pub drains : (dropping : Bool) (st : State squares)
-            → turnTo squares (firstRule squares dropping) g outlets ds x len st
+            → turnTo squares (tracingRule squares dropping) g outlets ds x len st
             ≡ drain g outlets dropping (above ds) st
         pub cells : cellsPending g outlets (above ds) ≡ cellsIn g outlets ds x
         pub all-wait : (end : ℕ) → 3 * (len .straight + len .diagonal + cellsIn g outlets ds x) ≤ end
@@ -89,20 +89,20 @@ module _ (g : Grid) (outlets : List ℕ) where
         solid = found-ground g outlets x d y f
 
         turned : (dropping : Bool) (ds : List Dir) (st : State squares)
-            → turnTo squares (firstRule squares dropping) g outlets (d ∷ ds) x len st
-            ≡ turnTo squares (firstRule squares dropping) g outlets ds x len (taken g outlets dropping y len st)
+            → turnTo squares (tracingRule squares dropping) g outlets (d ∷ ds) x len st
+            ≡ turnTo squares (tracingRule squares dropping) g outlets ds x len (taken g outlets dropping y len st)
         turned dropping ds st = by-test (test dropping y len st) refl
           where
             by-test : (b : Bool) → test dropping y len st ≡ b
-                → turnTo squares (firstRule squares dropping) g outlets (d ∷ ds) x len st
-                ≡ turnTo squares (firstRule squares dropping) g outlets ds x len (taken g outlets dropping y len st)
-            by-test true e = turn-drops squares (firstRule squares dropping) g outlets x d ds len st a agreed y f e
-                ∙ ap (turnTo squares (firstRule squares dropping) g outlets ds x len)
+                → turnTo squares (tracingRule squares dropping) g outlets (d ∷ ds) x len st
+                ≡ turnTo squares (tracingRule squares dropping) g outlets ds x len (taken g outlets dropping y len st)
+            by-test true e = turn-drops squares (tracingRule squares dropping) g outlets x d ds len st a agreed y f e
+                ∙ ap (turnTo squares (tracingRule squares dropping) g outlets ds x len)
                 (sym (taken-drops dropping y len st e))
-            by-test false e = turn-enters squares (firstRule squares dropping) g outlets x d ds len st a agreed y f e
-                ∙ ap (turnTo squares (firstRule squares dropping) g outlets ds x len)
+            by-test false e = turn-enters squares (tracingRule squares dropping) g outlets x d ds len st a agreed y f e
+                ∙ ap (turnTo squares (tracingRule squares dropping) g outlets ds x len)
                 (sym (taken-enters dropping y len st e
-                ∙ ap (λ (l : Length). enter squares (firstRule squares dropping) g outlets y l st)
+                ∙ ap (λ (l : Length). enter squares (tracingRule squares dropping) g outlets y l st)
                 (own-step g outlets x d y f len)))
 
         cell-is : cellOf g (pendingOf (g .cols) len y) ≡ y
@@ -127,7 +127,7 @@ module _ (g : Grid) (outlets : List ℕ) where
       pub follows : (ds : List Dir) → Follows ds
       unfolding inflowsAbove cellsPending cellsIn drain
       follows [] = record {
-        drains = λ dropping st. turn-done squares (firstRule squares dropping) g outlets x len st;
+        drains = λ dropping st. turn-done squares (tracingRule squares dropping) g outlets x len st;
         cells = refl;
         all-wait = λ end h. tt;
       }
@@ -135,7 +135,7 @@ module _ (g : Grid) (outlets : List ℕ) where
         where
           by-place : (o : Option ℕ) → inflowIn g outlets x d ≡ o → Follows ds → Follows (d ∷ ds)
           by-place none e ih = record {
-            drains = λ dropping st. turn-none squares (firstRule squares dropping) g outlets x d ds len st e
+            drains = λ dropping st. turn-none squares (tracingRule squares dropping) g outlets x d ds len st e
                 ∙ ih .drains dropping st ∙ rw e;
             cells = rw e (omega (arith, ih .cells));
             all-wait = λ end h. rw e (ih .all-wait end (omega (arith, rw e at h)));

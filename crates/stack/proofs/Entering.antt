@@ -12,7 +12,7 @@ use Rattle.lists.specs.Lists.{Every}
 use Rattle.ground.specs.Compass.{dirs, squares}
 use Rattle.ground.specs.Grid.{Grid, gridOf}
 use Rattle.ground.specs.Accumulation.{subaccumulation}
-use Rattle.search.specs.Search.{State, meetIf, firstRule}
+use Rattle.search.specs.Search.{State, meetIf, tracingRule}
 use Rattle.search.specs.Neighbours.{turnTo, enter}
 use Rattle.search.proofs.Neighbours.{visit-is}
 use Rattle.progress.specs.declared.Progress.{Progress}
@@ -97,13 +97,13 @@ module _ {rows cols : ℕ} {codes outlets subaccumulations : List ℕ}
     -- the rest of the search is the same
     pub drained : (dropping : Bool) → drain g outlets dropping (pending new (r .top)) (stateOf (r .progress) new end)
         ≡ drain g outlets dropping (pending old top)
-        (enter squares (firstRule squares dropping) g outlets x len (stateOf p old end))
+        (enter squares (tracingRule squares dropping) g outlets x len (stateOf p old end))
     unfolding enter
     drained dropping = ap (λ ws. drain g outlets dropping ws (stateOf (r .progress) new end)) (e .pending-is)
         ∙ drain-append g outlets dropping above (pending old top) (stateOf (r .progress) new end)
         ∙ ap (drain g outlets dropping (pending old top))
         (sym (followed ready at len .drains dropping (stateOf (r .progress) new end))
-        ∙ ap (turnTo squares (firstRule squares dropping) g outlets dirs x len) (e .state
+        ∙ ap (turnTo squares (tracingRule squares dropping) g outlets dirs x len) (e .state
         ∙ sym (visit-is squares dropping g outlets (ready .lent) (ready .agreed) (stateOf p old end) x len
         (at .solid))))
 

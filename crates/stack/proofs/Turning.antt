@@ -17,12 +17,11 @@ use Rattle.ground.specs.Accumulation.{subaccumulation}
 use Rattle.moves.specs.Moves.{leadOf}
 use Rattle.ground.specs.Forest.{forest}
 use Rattle.ground.proofs.Cells.{code-inside}
-use Rattle.search.specs.Search.{State, firstRule, drops, dropCells, searchFrom}
+use Rattle.search.specs.Search.{State, tracingRule, drops, dropCells, searchFrom}
 use Rattle.search.specs.Neighbours.{enter}
 use Rattle.search.proofs.Neighbours.{search-enters}
 use Rattle.progress.specs.declared.Progress.{Progress}
 use Rattle.progress.specs.Starts.{kept, begun, isBelow, stateOf}
-use Rattle.progress.proofs.Kept.{below-starts}
 use Rattle.upstream.specs.Ready.{Ready, OnGround, ownLength}
 use Rattle.upstream.proofs.Entering.{one-step, drops-by}
 use Rattle.stack.specs.declared.Pending.{Pending}
@@ -112,15 +111,13 @@ module _ {rows cols : ℕ} {codes outlets subaccumulations : List ℕ}
           )
 
       module _ (dropping : Bool) {n : ℕ} (is-n : n ≡ sub y) {b : Bool}
-          {limit : Length} (is-limit : limit ≡ farthest squareCells (w .below) n)
-          (tests : b ≡ (dropping && isBelow limit (s .progress))) where
+          (tests : b ≡ (dropping && isBelow (farthest squareCells (w .below) n) (s .progress))) where
         abbrev state : State squares
         state = stateOf (s .progress) old end
 
-        test : b ≡ drops squares (firstRule squares dropping) (state .starts) (w .below) E (sub y)
-        test = tests ∙ ap (λ (x : Bool). dropping && x) (below-starts limit (s .progress) old end)
-            ∙ drops-by dropping (state .starts) (w .below) E n is-limit
-            ∙ ap (drops squares (firstRule squares dropping) (state .starts) (w .below) E) is-n
+        test : b ≡ drops squares (tracingRule squares dropping) (state .starts) (w .below) E (sub y)
+        test = tests ∙ drops-by dropping (s .progress) old end (w .below) E n
+            ∙ ap (drops squares (tracingRule squares dropping) (state .starts) (w .below) E) is-n
 
         first-taken : drain g outlets dropping (pending old (s .top)) state
             ≡ drain g outlets dropping rest (taken g outlets dropping y (w .below) state)
@@ -167,7 +164,7 @@ module _ {rows cols : ℕ} {codes outlets subaccumulations : List ℕ}
           drains = drained ready on-ground into dropping
               ∙ sym (first-taken ∙ ap (drain g outlets dropping rest)
               (taken-enters g outlets dropping y (w .below) state (sym test ∙ e)
-              ∙ ap (λ (l : Length). enter squares (firstRule squares dropping) g outlets y l state) (sym own-is)));
+              ∙ ap (λ (l : Length). enter squares (tracingRule squares dropping) g outlets y l state) (sym own-is)));
           fewer = omega (arith, cells, cells-left ready on-ground into);
           beyond = into .beyond;
         }
@@ -201,17 +198,17 @@ module _ {rows cols : ℕ} {codes outlets subaccumulations : List ℕ}
 
       pub outlet-drains : (dropping : Bool)
           → drain g outlets dropping (pending new (r .top)) (stateOf (r .progress) new end)
-          ≡ searchFrom squares (firstRule squares dropping) o (forest g outlets o)
+          ≡ searchFrom squares (tracingRule squares dropping) o (forest g outlets o)
       unfolding pending drain kept
       outlet-drains dropping = drained ready at into dropping
-          ∙ sym (search-enters squares (firstRule squares dropping) g outlets (ready .lent) (ready .agreed) o
+          ∙ sym (search-enters squares (tracingRule squares dropping) g outlets (ready .lent) (ready .agreed) o
           (at .solid))
 
     -- none is pending: all is traced
     pub traced : {end : ℕ} → end ≡ 3 * sub o → (dropping : Bool) {s : Stack} (old : List ℕ) {work : List ℕ}
         → Standing g outlets end s work → s .top ≡ 0
         → drain g outlets dropping (pending work (s .top)) (stateOf (s .progress) work end)
-        ≡ searchFrom squares (firstRule squares dropping) o (forest g outlets o)
+        ≡ searchFrom squares (tracingRule squares dropping) o (forest g outlets o)
         → ((i : ℕ) → end ≤ i → getD work i 0 ≡ getD old i 0)
         → Traced g outlets dropping o old (s .progress) work
     unfolding pending drain cellsPending

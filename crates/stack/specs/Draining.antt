@@ -12,7 +12,7 @@ use Rattle.ground.specs.Compass.{E, dirs, squares}
 use Rattle.ground.specs.Grid.{Grid, gridOf, ground}
 use Rattle.ground.specs.Accumulation.{subaccumulation}
 use Rattle.search.specs.Tracing.{numbersEach}
-use Rattle.search.specs.Search.{State, meetIf, firstRule, drops, dropCells}
+use Rattle.search.specs.Search.{State, meetIf, tracingRule, drops, dropCells}
 use Rattle.search.specs.Neighbours.{enter}
 use Rattle.progress.specs.declared.Progress.{Progress}
 use Rattle.progress.specs.Starts.{startAt, startsOf, stateOf}
@@ -50,10 +50,10 @@ module _ (g : Grid) (outlets : List ℕ) where
     -- what the search does with a cell above this length: it drops or enters it. 01's limit is the same for any step,
     -- so the test takes one of them
     unfoldable pub taken : ℕ → Length → State squares → State squares
-    taken y below st = elim (drops squares (firstRule squares dropping) (st .starts) below E
+    taken y below st = elim (drops squares (tracingRule squares dropping) (st .starts) below E
         (subaccumulation g outlets y)) [
           | true ↦ dropCells squares st (subaccumulation g outlets y)
-          | false ↦ enter squares (firstRule squares dropping) g outlets y (ownLength g y below) st
+          | false ↦ enter squares (tracingRule squares dropping) g outlets y (ownLength g y below) st
         ]
 
     -- and with all pending cells, the first first

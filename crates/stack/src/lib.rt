@@ -240,7 +240,7 @@ fn turn(
     let below = w.below;
     let at = row * cols + col;
     let n = subaccumulation[at];
-    if is_dropped(dropping, below.farthest(n), p) {
+    if is_dropped(dropping, below, n, p) {
         return Stack {
             progress: drop_cells(p, n),
             top,

@@ -13,11 +13,13 @@ use Rattle.lengths.specs.Lengths.{squareCells, farthest}
 use Rattle.lengths.proofs.Laws.{farthest-by}
 use Rattle.ground.specs.Compass.{Dir, SE, opposite, stepOf, squares}
 use Rattle.ground.specs.Grid.{Grid}
-use Rattle.ground.specs.Walk.{At}
 use Rattle.ground.proofs.Cells.{points-flow}
 use Rattle.moves.specs.Moves.{leadBy, stepBy}
-use Rattle.search.specs.Search.{firstRule, belowGreatest, drops}
+use Rattle.search.specs.Search.{tracingRule, drops}
 use Rattle.search.proofs.Neighbours.{Found}
+use Rattle.progress.specs.declared.Progress.{Progress}
+use Rattle.progress.specs.Starts.{isBelow, startsOf}
+use Rattle.progress.proofs.Kept.{below-starts}
 use Rattle.upstream.specs.Ready.{ownLength}
 
 -- a step is one step more
@@ -31,9 +33,10 @@ pub own-step : (g : Grid) (outlets : List ℕ) (x : ℕ) (d : Dir) (y : ℕ) →
     → ownLength g y len ≡ plusStep len (stepOf (opposite d))
 own-step g outlets x d y f len = ap (λ o. plusStep len (stepBy (leadBy o))) (points-flow g (opposite d) y (f .flows))
 
--- the limit of 01's rule, as the code works it out
-pub drops-by : (dropping : Bool) (gs : List (At Length)) (from : Length) (s : Dir) (n : ℕ) {limit : Length}
-    → limit ≡ farthest squareCells from n
-    → (dropping && belowGreatest squares gs limit) ≡ drops squares (firstRule squares dropping) gs from s n
-drops-by dropping gs from s n e = ap (λ (l : Length). dropping && belowGreatest squares gs l)
-    (e ∙ sym (farthest-by stepOf SE squareCells refl from n))
+-- the rule's test, as the code makes it
+pub drops-by : (dropping : Bool) (p : Progress) (work : List ℕ) (end : ℕ) (from : Length) (s : Dir) (n : ℕ)
+    → (dropping && isBelow (farthest squareCells from n) p)
+    ≡ drops squares (tracingRule squares dropping) (startsOf p work end) from s n
+drops-by dropping p work end from s n = ap (λ (b : Bool). dropping && b)
+    (ap (λ (l : Length). isBelow l p) (sym (farthest-by stepOf SE squareCells refl from n))
+    ∙ below-starts (farthest squares from n) p work end)

@@ -13,7 +13,7 @@ use Rattle.ground.specs.Accumulation.{agrees, subaccumulation}
 use Rattle.ground.specs.Forest.{forest}
 use Rattle.moves.specs.Lent.{LentGrid}
 use Rattle.moves.specs.Moves.{leadBy, stepBy}
-use Rattle.search.specs.Search.{State, firstRule, searchFrom}
+use Rattle.search.specs.Search.{State, tracingRule, searchFrom}
 use Rattle.progress.specs.declared.Progress.{Progress}
 use Rattle.progress.specs.Starts.{stateOf}
 
@@ -43,6 +43,6 @@ pub record OnGround (rows cols : ℕ) (codes : List ℕ) (row col : ℕ) : Type 
 pub record Searched (g : Grid) (outlets : List ℕ) (dropping : Bool) (o end : ℕ) (r : Progress)
     (new : List ℕ) : Type 0 where
   pub state : _≡_ {A = State squares} (stateOf r new end)
-      (searchFrom squares (firstRule squares dropping) o (forest g outlets o))
+      (searchFrom squares (tracingRule squares dropping) o (forest g outlets o))
   pub all-cells : r .visited + r .dropped ≡ subaccumulation g outlets o
   pub few-paths : r .paths ≤ r .visited

@@ -17,7 +17,6 @@ use Rattle.recursion.proofs.+trace_cell+trace_inflows.Lts-trace_cell as
 use Rattle.recursion.proofs.trace_inflows.Reads as trace-inflows
 use Rattle.recursion.proofs.trace_inflows.Kinds as trace-inflows-kinds
 use Rattle.recursion.proofs.+trace_cell+trace_inflows.Lts-trace_inflows as trace-inflows-lts
-use Rattle.lengths.proofs.Length.farthest.Reads as farthest-reads
 use Rattle.lengths.proofs.Length.plus.Reads as plus-reads
 use Rattle.progress.proofs.drop_cells.Reads as drop-cells-reads
 use Rattle.progress.proofs.is_dropped.Reads as is-dropped-reads
@@ -57,8 +56,6 @@ module _ (t : ℕ) where
   in-inflows = (
     next-turn-reads.Asked,
     next-turn-reads.Learnt,
-    farthest-reads.Asked,
-    farthest-reads.Learnt,
     is-dropped-reads.Asked,
     is-dropped-reads.Learnt,
     drop-cells-reads.Asked,
@@ -114,8 +111,8 @@ module _ (t : ℕ) where
   add-left : trace-inflows-lts.Need-add-left in-inflows trace-inflows-at trace-inflows.Post
   add-left c = let n = c .before .before .before in omega (arith, n .next-turn .ensures .last)
 
-  farthest-requires : trace-inflows-lts.Need-farthest-requires in-inflows trace-inflows-at trace-inflows.Post
-  farthest-requires c κs =
+  is-dropped-requires : trace-inflows-lts.Need-is-dropped-requires in-inflows trace-inflows-at trace-inflows.Post
+  is-dropped-requires c κs =
       let n = c .before .before .before in
       let s = n .before .before .before .before in
       let h = c .before .if1 .left in (
@@ -123,12 +120,9 @@ module _ (t : ℕ) where
         omega (arith, small-cells (s .pre .1 .0) (s .args .dropping) (s .pre .1 .1) (n .next-turn .ensures) h),
       )
 
-  is-dropped-requires : trace-inflows-lts.Need-is-dropped-requires in-inflows trace-inflows-at trace-inflows.Post
-  is-dropped-requires c κs = search needs
-
   drop-cells-requires : trace-inflows-lts.Need-drop-cells-requires in-inflows trace-inflows-at trace-inflows.Post
   drop-cells-requires c κs =
-      let e = c .before .before .before .before in
+      let e = c .before .before .before in
       let n = e .before .before in
       let s = n .before .before .before .before in
       omega (
@@ -140,7 +134,7 @@ module _ (t : ℕ) where
   dropped-requires : trace-inflows-lts.Need-trace-inflows-requires in-inflows trace-inflows-at trace-inflows.Post
   dropped-requires c κs =
       let d = c .before in
-      let e = d .before .before .before .before .before in
+      let e = d .before .before .before .before in
       let n = e .before .before in
       let s = n .before .before .before .before in
       let a = s .args in (
@@ -150,20 +144,20 @@ module _ (t : ℕ) where
           subst (λ q. InflowsReady (a .rows) (a .cols) (a .codes .now) (a .outlets .now) (a .row) (a .col)
               (a .len) (n .next-turn .result .k + 1) q (a .found .now)) (sym (d .drop-cells .ensures))
               (drop-ready (s .pre .1 .0) (a .dropping) (s .pre .1 .1) (n .next-turn .ensures) (e .if1 .left)
-              (d .before .before .before .farthest .ensures) (d .before .before .is-dropped .ensures)),
+              (d .before .before .is-dropped .ensures)),
         ),
       )
 
   dropped-returns : trace-inflows-lts.Need-returns-2 in-inflows trace-inflows-at trace-inflows.Post
   dropped-returns c =
       let d = c .before .before in
-      let e = d .before .before .before .before .before in
+      let e = d .before .before .before .before in
       let n = e .before .before in
       let s = n .before .before .before .before in
       let a = s .args in
       let i = c .trace-inflows in
       drop-traced (s .pre .1 .0) (a .dropping) (s .pre .1 .1) (n .next-turn .ensures) (e .if1 .left)
-      (d .before .before .before .farthest .ensures) (d .before .before .is-dropped .ensures) (d .before .if2 .taken)
+      (d .before .before .is-dropped .ensures) (d .before .if2 .taken)
       (i .result)
       (i .last .1 .1 .1 .1 .1 .1 .1 .1 .1 .1 .1 .0)
       (subst (λ q. InflowsTraced (a .rows) (a .cols) (a .codes .now) (a .outlets .now) (a .dropping) (a .row) (a .col)
@@ -173,7 +167,7 @@ module _ (t : ℕ) where
 
   plus-requires : trace-inflows-lts.Need-plus-requires in-inflows trace-inflows-at trace-inflows.Post
   plus-requires c κs =
-      let e = c .before .before .before .before in
+      let e = c .before .before .before in
       let n = e .before .before in
       let s = n .before .before .before .before in
       let small = small-len (s .pre .1 .0) (s .args .dropping) (s .pre .1 .1) (n .next-turn .ensures) (e .if1 .left) in
@@ -183,7 +177,7 @@ module _ (t : ℕ) where
   traced-requires c κs =
       let p = c .before in
       let d = p .before .before in
-      let e = d .before .before .before in
+      let e = d .before .before in
       let n = e .before .before in
       let s = n .before .before .before .before in
       let a = s .args in
@@ -198,8 +192,7 @@ module _ (t : ℕ) where
         ),
         (
           ready,
-          cell-ready ready (a .dropping) here (n .next-turn .ensures) (e .if1 .left) (d .before .farthest .ensures)
-              (d .is-dropped .ensures)
+          cell-ready ready (a .dropping) here (n .next-turn .ensures) (e .if1 .left) (d .is-dropped .ensures)
               (p .before .if2 .left)
               (p .plus .ensures),
         ),
@@ -210,7 +203,7 @@ module _ (t : ℕ) where
       let q = c .before .trace-cell in
       let p = c .before .before .before in
       let d = p .before .before in
-      let e = d .before .before .before in
+      let e = d .before .before in
       let n = e .before .before in
       let s = n .before .before .before .before in
       let a = s .args in (
@@ -218,7 +211,7 @@ module _ (t : ℕ) where
         (
           s .pre .1 .0,
           rest-ready (s .pre .1 .0) (a .dropping) (s .pre .1 .1) (n .next-turn .ensures) (e .if1 .left)
-              (d .before .farthest .ensures) (d .is-dropped .ensures) (p .before .if2 .left)
+              (d .is-dropped .ensures) (p .before .if2 .left)
               (p .plus .ensures) (q .ensures),
         ),
       )
@@ -229,12 +222,12 @@ module _ (t : ℕ) where
       let q = c .before .before .trace-cell in
       let p = c .before .before .before .before in
       let d = p .before .before in
-      let e = d .before .before .before in
+      let e = d .before .before in
       let n = e .before .before in
       let s = n .before .before .before .before in
       let a = s .args in
       rest-traced (s .pre .1 .0) (a .dropping) (s .pre .1 .1) (n .next-turn .ensures) (e .if1 .left)
-      (d .before .farthest .ensures) (d .is-dropped .ensures) (p .before .if2 .left)
+      (d .is-dropped .ensures) (p .before .if2 .left)
       (p .plus .ensures) (q .ensures) (i .result)
       (i .last .1 .1 .1 .1 .1 .1 .1 .1 .1 .1 .1 .0) (i .ensures)
 
@@ -243,7 +236,7 @@ pub +trace-cell+trace-inflows-spec : {M : Type 1} → statement M
     (λ t. trace-cell-lts.spec (in-cell t) (trace-cell-at t) trace-cell.Post (cell-visit-requires t)
     (cell-inflows-requires t) (cell-returns t))
     λ t. trace-inflows-lts.spec (in-inflows t) (trace-inflows-at t) trace-inflows.Post (inflows-next-requires t)
-    (inflows-returns t) (add-left t) (farthest-requires t) (is-dropped-requires t) (drop-cells-requires t)
+    (inflows-returns t) (add-left t) (is-dropped-requires t) (drop-cells-requires t)
     (dropped-requires t)
     (dropped-returns t) (plus-requires t) (traced-requires t) (rest-requires t)
     (rest-returns t)

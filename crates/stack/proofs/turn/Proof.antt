@@ -56,20 +56,17 @@ shared-slice-read-n c =
     let d = c .before .before in
     omega (arith, indexed (start d .pre .0) (ground-there d))
 
-farthest-requires : tie.Need-farthest-requires
-farthest-requires c κs =
+is-dropped-requires : tie.Need-is-dropped-requires
+is-dropped-requires c κs =
     let d = c .before .before in
     let s = start d in
     let l = small-length (s .pre .0) (s .pre .1 .0) (s .pre .1 .1)
     (d .pending-at .ensures) in
     (omega arith, omega (arith, read (s .pre .0) (ground-there d), small-cells (s .pre .0) (ground-there d)))
 
-is-dropped-requires : tie.Need-is-dropped-requires
-is-dropped-requires c κs = search needs
-
 drop-cells-requires : tie.Need-drop-cells-requires
 drop-cells-requires c κs =
-    let d = c .before .before .before .before .before in
+    let d = c .before .before .before .before in
     let s = start d in
     omega (
       arith,
@@ -83,16 +80,16 @@ same-length c = search needs
 
 returns : tie.Need-returns
 returns c =
-    let d = c .before .before .before .before .before .before in
+    let d = c .before .before .before .before .before in
     let s = start d in
     turn-dropped (s .pre .0) (s .pre .1 .0) (s .pre .1 .1)
     (d .pending-at .ensures)
-    (s .args .dropping) (read (s .pre .0) (ground-there d)) (c .before .before .before .farthest .ensures)
+    (s .args .dropping) (read (s .pre .0) (ground-there d))
     (c .before .before .is-dropped .ensures)
     (c .before .if1 .taken) (c .drop-cells .ensures)
 
 shared-slice-read-step-of : tie.Need-shared-slice-read-step-of
-shared-slice-read-step-of c = let d = c .before .before .before .before .before .before in
+shared-slice-read-step-of c = let d = c .before .before .before .before .before in
     omega (arith, indexed (start d .pre .0) (ground-there d))
 
 step-of-requires : tie.Need-step-of-requires
@@ -100,7 +97,7 @@ step-of-requires c κs = search needs
 
 plus-requires : tie.Need-plus-requires
 plus-requires c κs =
-    let d = c .before .before .before .before .before .before .before in
+    let d = c .before .before .before .before .before .before in
     let s = start d in
     let l = small-length (s .pre .0) (s .pre .1 .0) (s .pre .1 .1)
     (d .pending-at .ensures) in
@@ -108,7 +105,7 @@ plus-requires c κs =
 
 enter-cell-requires : tie.Need-enter-cell-requires
 enter-cell-requires c κs =
-    let d = c .before .before .before .before .before .before .before .before .before in
+    let d = c .before .before .before .before .before .before .before .before in
     let s = start d in (
       s .pre .0,
       (
@@ -123,13 +120,12 @@ same-length-2 c = search needs
 
 returns-2 : tie.Need-returns-2
 returns-2 c =
-    let d = c .before .before .before .before .before .before .before .before .before .before .before .before in
+    let d = c .before .before .before .before .before .before .before .before .before .before .before in
     let s = start d in
     let e = c .before .before .enter-cell in
     turn-entered (s .pre .0) (s .pre .1 .0) (s .pre .1 .1)
     (d .pending-at .ensures)
     (s .args .dropping) (read (s .pre .0) (ground-there d))
-    (c .before .before .before .before .before .before .before .before .before .farthest .ensures)
     (c .before .before .before .before .before .before .before .before .is-dropped .ensures)
     (c .before .before .before .before .before .before .before .if1 .left)
     (c .before .before .before .before .plus .ensures
@@ -146,7 +142,6 @@ turn-spec =
     add-at
     mul-n
     shared-slice-read-n
-    farthest-requires
     is-dropped-requires
     drop-cells-requires
     same-length
