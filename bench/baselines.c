@@ -260,9 +260,11 @@ uint32_t plain_flow_lengths(size_t rows, size_t cols, const uint8_t *codes, cons
     return 0;
 }
 
-struct plain_found plain_search(size_t rows, size_t cols, const uint8_t *codes, const uint32_t *subaccumulation,
-                                const uint8_t *marks, uint32_t outlet, int dropping, uint32_t *starts, size_t places,
-                                uint32_t *work) {
+/* Inlined for each rule by itself. A pending cell stands with its own length, by the first limit with that of the cell
+   below it. */
+static inline struct plain_found search(size_t rows, size_t cols, const uint8_t *codes, const uint32_t *subaccumulation,
+                                        const uint8_t *marks, uint32_t outlet, const enum plain_rule rule,
+                                        uint32_t *starts, size_t places, uint32_t *work) {
     struct plain_found found = {0, 0, 0, 0, 0};
     double greatest = -1;
     size_t pending = 1;
@@ -271,14 +273,14 @@ struct plain_found plain_search(size_t rows, size_t cols, const uint8_t *codes, 
     work[2] = 0;
     while (pending > 0) {
         pending--;
-        /* a pending cell stands with the length of the cell below it */
         uint32_t here = work[3 * pending], a = work[3 * pending + 1], b = work[3 * pending + 2];
         uint32_t cells = subaccumulation[here];
-        if (here != outlet) {
-            if (dropping && a + ((double)b + cells) * ROOT < greatest) {
-                found.dropped += cells;
-                continue;
-            }
+        double steps = (double)b + cells - (rule == PLAIN_TIGHT);
+        if (rule != PLAIN_NONE && a + steps * ROOT < greatest) {
+            found.dropped += cells;
+            continue;
+        }
+        if (rule == PLAIN_FIRST && here != outlet) {
             if (way(codes[here]) & 1)
                 b++;
             else
@@ -305,14 +307,28 @@ struct plain_found plain_search(size_t rows, size_t cols, const uint8_t *codes, 
             if (!inside(rows, cols, r, c)) continue;
             size_t at = (size_t)r * cols + (size_t)c;
             if (codes[at] != BACK[k] || marks[at]) continue;
+            int own = rule != PLAIN_FIRST;
             work[3 * pending] = (uint32_t)at;
-            work[3 * pending + 1] = a;
-            work[3 * pending + 2] = b;
+            work[3 * pending + 1] = a + (own & ~k & 1);
+            work[3 * pending + 2] = b + (own & k & 1);
             pending++;
         }
     }
     memset(work, 0, 3 * (size_t)subaccumulation[outlet] * sizeof *work);
     return found;
+}
+
+struct plain_found plain_search(size_t rows, size_t cols, const uint8_t *codes, const uint32_t *subaccumulation,
+                                const uint8_t *marks, uint32_t outlet, enum plain_rule rule, uint32_t *starts,
+                                size_t places, uint32_t *work) {
+    switch (rule) {
+    case PLAIN_NONE:
+        return search(rows, cols, codes, subaccumulation, marks, outlet, PLAIN_NONE, starts, places, work);
+    case PLAIN_FIRST:
+        return search(rows, cols, codes, subaccumulation, marks, outlet, PLAIN_FIRST, starts, places, work);
+    default:
+        return search(rows, cols, codes, subaccumulation, marks, outlet, PLAIN_TIGHT, starts, places, work);
+    }
 }
 
 size_t plain_draw(size_t rows, size_t cols, const uint8_t *codes, uint32_t outlet, uint32_t start, uint32_t *places) {

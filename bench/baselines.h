@@ -38,11 +38,15 @@ uint32_t plain_flow_lengths(size_t rows, size_t cols, const uint8_t *codes, cons
                             const uint32_t *outlets, size_t count, uint32_t *down_straight, uint32_t *down_diagonal,
                             uint32_t *up_straight, uint32_t *up_diagonal);
 
+/* Which neighbours of n cells a search drops, from a cell at length d: none, or those whose limit is below the greatest
+   length met. The first limit is d + n√2, the tight one d, the step and (n − 1)√2. */
+enum plain_rule { PLAIN_NONE, PLAIN_FIRST, PLAIN_TIGHT };
+
 /* The longest paths to an outlet, from pending cells; the subaccumulation and the marks are those of
    plain_subaccumulate. work has three numbers for each of the outlet's cells, which are left 0. */
 struct plain_found plain_search(size_t rows, size_t cols, const uint8_t *codes, const uint32_t *subaccumulation,
-                                const uint8_t *marks, uint32_t outlet, int dropping, uint32_t *starts, size_t places,
-                                uint32_t *work);
+                                const uint8_t *marks, uint32_t outlet, enum plain_rule rule, uint32_t *starts,
+                                size_t places, uint32_t *work);
 
 /* The cells from a start to an outlet; their number, or 0 where the walk misses it. */
 size_t plain_draw(size_t rows, size_t cols, const uint8_t *codes, uint32_t outlet, uint32_t start, uint32_t *places);

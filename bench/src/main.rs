@@ -69,6 +69,7 @@ fn bench(sizes: &[(usize, Runs)]) {
     measured.iter().rev().for_each(tables::ratios);
     tables::growth(&measured);
     tables::times(largest);
+    tables::visits(&measured);
     memory.print();
     stacks::stacks();
     noise(&clock.bests);

@@ -7,7 +7,7 @@ use second_reading::entries::{self, Terrain};
 
 use crate::grounds::comb;
 use crate::measure::peak;
-use crate::plain;
+use crate::plain::{self, Rule};
 use crate::tables::table;
 use crate::trials::{accepted, FROM, LIST, TO};
 
@@ -185,7 +185,7 @@ fn accumulated(who: &str, work: &str, codes: &[u8]) -> usize {
                         &grid,
                         &marks,
                         outlets[0],
-                        false,
+                        Rule::None,
                         &mut starts,
                         &mut work,
                     );

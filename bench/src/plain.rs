@@ -1,6 +1,19 @@
 //! The plain C, called with slices.
 
+/// Which neighbours of n cells a search drops, from a cell at length d.
+#[repr(C)]
+#[derive(Clone, Copy)]
+pub enum Rule {
+    None,
+    /// By the limit d + n√2.
+    First,
+    /// By the limit d, the step and (n − 1)√2.
+    Tight,
+}
+
 mod c {
+    use super::Rule;
+
     #[repr(C)]
     pub struct Found {
         pub straight: u32,
@@ -81,7 +94,7 @@ mod c {
             subaccumulation: *const u32,
             marks: *const u8,
             outlet: u32,
-            dropping: i32,
+            rule: Rule,
             starts: *mut u32,
             places: usize,
             work: *mut u32,
@@ -200,7 +213,7 @@ pub fn search(
     subaccumulation: &[u32],
     marks: &[u8],
     outlet: u32,
-    dropping: bool,
+    rule: Rule,
     starts: &mut [u32],
     work: &mut [u32],
 ) -> [u32; 5] {
@@ -216,7 +229,7 @@ pub fn search(
             subaccumulation.as_ptr(),
             marks.as_ptr(),
             outlet,
-            dropping.into(),
+            rule,
             starts.as_mut_ptr(),
             starts.len(),
             work.as_mut_ptr(),

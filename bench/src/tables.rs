@@ -1,7 +1,7 @@
 //! Markdown.
 
 use crate::grounds::KINDS;
-use crate::trials::{Figure, Own, Row, ROWS};
+use crate::trials::{Figure, Own, Row, Trial, ROWS};
 
 /// A table whose first columns hold words and the others numbers.
 pub fn table(words: usize, heads: &[&str], rows: &[Vec<String>]) {
@@ -40,10 +40,10 @@ fn marked(figure: &Figure, text: String) -> String {
     }
 }
 
-/// The figures of one size, by ground.
+/// One size, by ground.
 pub struct Size {
     pub name: String,
-    pub grounds: Vec<Vec<Figure>>,
+    pub grounds: Vec<Trial>,
 }
 
 /// What was aimed at on each ground, beside plain C or other work of the library, and what came of
@@ -58,14 +58,14 @@ pub fn aims(size: &Size) {
     for (at, row) in ROWS.iter().enumerate() {
         for (((kind, _), aim), ground) in KINDS.iter().zip(row.aims).zip(&size.grounds) {
             if let Some(aim) = aim {
-                let figure = &ground[at];
+                let figure = &ground.figures[at];
                 let found = marked(figure, ratio(figure.library / figure.plain));
                 aimed(row, format!("plain C: {}", row.plain), kind, aim, found);
             }
         }
         if let Some(Own { work, most }) = row.own {
             let other = ROWS.iter().position(|row| row.work == work).expect("a row");
-            let (ground, kind) = (&size.grounds[0], KINDS[0].0);
+            let (ground, kind) = (&size.grounds[0].figures, KINDS[0].0);
             let found = ratio(ground[at].library / ground[other].library);
             aimed(row, format!("the library: {work}"), kind, most, found);
         }
@@ -84,11 +84,11 @@ pub fn ratios(size: &Size) {
     for (at, row) in ROWS.iter().enumerate() {
         let mut words = vec![row.work.to_string(), row.plain.to_string()];
         for ground in &size.grounds {
-            let figure = &ground[at];
+            let figure = &ground.figures[at];
             words.push(marked(figure, ratio(figure.library / figure.plain)));
         }
         for ground in &size.grounds {
-            let figure = &ground[at];
+            let figure = &ground.figures[at];
             words.push(figure.rust.map_or("–".to_string(), |rust| ratio(figure.library / rust)));
         }
         rows.push(words);
@@ -112,7 +112,7 @@ pub fn growth(sizes: &[Size]) {
             let costs: Vec<String> = sizes
                 .iter()
                 .map(|size| {
-                    let figure = &size.grounds[ground][at];
+                    let figure = &size.grounds[ground].figures[at];
                     marked(figure, format!("{:.1}", figure.library / figure.units * 1e9))
                 })
                 .collect();
@@ -132,7 +132,7 @@ pub fn times(size: &Size) {
     for (at, row) in ROWS.iter().enumerate() {
         let mut words = vec![row.work.to_string(), row.plain.to_string()];
         for ground in &size.grounds {
-            let figure = &ground[at];
+            let figure = &ground.figures[at];
             let mut text = marked(figure, milliseconds(figure.library));
             if let Some(wall) = figure.wall {
                 text += &format!(" ({})", milliseconds(wall));
@@ -143,6 +143,27 @@ pub fn times(size: &Size) {
         }
         rows.push(words);
     }
+    table(2, &heads, &rows);
+}
+
+/// The cells that a search with dropping visits by 01's rule and by the tight limit, for all sizes.
+pub fn visits(sizes: &[Size]) {
+    println!("### Cells visited with dropping, to the mouth: by the first limit and by the tight one\n");
+    let mut rows = Vec::new();
+    for size in sizes {
+        for ((kind, _), Trial { visits, .. }) in KINDS.iter().zip(&size.grounds) {
+            rows.push(vec![
+                size.name.clone(),
+                kind.to_string(),
+                grouped(visits.cells),
+                grouped(visits.first),
+                grouped(visits.tight),
+                milliseconds(visits.first_taken),
+                milliseconds(visits.tight_taken),
+            ]);
+        }
+    }
+    let heads = ["size", "ground", "cells", "first", "tight", "C, first, ms", "C, tight, ms"];
     table(2, &heads, &rows);
 }
 

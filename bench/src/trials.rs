@@ -14,12 +14,12 @@ use crate::grounds::{Field, SEED};
 use crate::measure::Clock;
 use drawing::drawing;
 use grids::{accumulating, checking, converting, measuring, subaccumulating};
-use tracing::{recursion, tracing, Engine};
+use tracing::{recursion, tracing, Engine, Traced};
 
 pub use figures::Figure;
 pub use lent::{Sets, LIST};
 pub use rows::{Own, Row, ROWS};
-pub use tracing::MOST_BY_RECURSION;
+pub use tracing::{Visits, MOST_BY_RECURSION};
 
 /// The tables of codes that are converted from and to.
 pub const FROM: u32 = 1;
@@ -52,8 +52,13 @@ impl Runs {
     }
 }
 
-/// The figures of one ground, in the order of the rows.
-pub fn trial(field: &Field, runs: Runs, sets: &Sets, clock: &mut Clock) -> Vec<Figure> {
+/// What one ground gave: the figures in the order of the rows, and what dropping visits.
+pub struct Trial {
+    pub figures: Vec<Figure>,
+    pub visits: Visits,
+}
+
+pub fn trial(field: &Field, runs: Runs, sets: &Sets, clock: &mut Clock) -> Trial {
     let cells = field.cells();
     let mut figures = accumulating(field, runs, sets, clock);
     let accumulation = sets.library.borrow().accumulation[..cells].to_vec();
@@ -75,13 +80,13 @@ pub fn trial(field: &Field, runs: Runs, sets: &Sets, clock: &mut Clock) -> Vec<F
     let one_lengths = measuring(terrain, &[outlet], steps, runs, sets, clock);
     let plain_fill = one.plain;
     figures.extend([one, many, one_lengths, many_lengths]);
-    let (traced, start) =
+    let Traced { figures: traced, visits, start } =
         tracing(Engine::Stack, terrain, outlet, plain_fill, steps, runs, sets, clock);
     figures.extend(traced);
     figures.extend(recursion(field, &accumulation, runs, clock));
     figures.extend(drawing(terrain, outlet, start, equation, runs, sets, clock));
     assert_eq!(figures.len(), ROWS.len());
-    figures
+    Trial { figures, visits }
 }
 
 pub fn accepted(number: u32) {

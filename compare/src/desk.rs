@@ -94,7 +94,7 @@ mod tests {
              outlet 1 at 2 1 cells 3 straight 1 diagonal 0 paths 2 visited 3 dropped 0\n\
              path 2 2\n\
              path 2 0\n\
-             outlet 2 at 1 1 cells 6 straight 0 diagonal 1 paths 2 visited 6 dropped 0\n\
+             outlet 2 at 1 1 cells 6 straight 0 diagonal 1 paths 2 visited 5 dropped 1\n\
              path 0 0\n\
              path 0 2\n"
         );

@@ -42,15 +42,15 @@ fn m3_a_drop() {
 #[test]
 fn m4_diagonals() {
     M4.accumulates();
-    M4.has_longest(0, (1, 1), &[0, 2]);
+    assert_eq!(M4.has_longest(0, (1, 1), &[0, 2]), (8, 1));
 }
 
 #[test]
 fn m5_an_upper_outlet() {
     let (_, _, grid) = M5.traced(0, true, 2);
     assert_eq!((grid[7], grid[4]), (3, 6));
-    M5.has_longest(0, (1, 0), &[8, 6]);
-    M5.has_longest(1, (0, 1), &[0, 2]);
+    assert_eq!(M5.has_longest(0, (1, 0), &[8, 6]), (3, 0));
+    assert_eq!(M5.has_longest(1, (0, 1), &[0, 2]), (5, 1));
 }
 
 #[test]

@@ -40,7 +40,7 @@ fn paths_end_at_a_pond_outlet_like_any_other() {
     M3.accumulates();
     assert_eq!(M3.has_longest(0, (2, 0), &[3]), (3, 1));
     EIGHT.accumulates();
-    assert_eq!(EIGHT.has_longest(0, (0, 1), &[8, 6, 0, 2]), (9, 0));
+    assert_eq!(EIGHT.has_longest(0, (0, 1), &[8, 6, 0, 2]), (6, 3));
 }
 
 #[test]

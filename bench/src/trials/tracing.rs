@@ -10,7 +10,7 @@ use super::lent::{Lent, Sets};
 use super::{accepted, largest, steps_of, Runs, MANY_STEPS};
 use crate::grounds::Field;
 use crate::measure::{timed, watching, Clock, Contestant};
-use crate::plain;
+use crate::plain::{self, Rule};
 
 /// The most cells of a valley that recursion takes.
 pub const MOST_BY_RECURSION: u32 = 4096;
@@ -21,7 +21,24 @@ pub enum Engine {
     Recursion,
 }
 
-/// Four figures, and the first start. The plain sets hold the subaccumulation of the outlet.
+/// What a search with dropping visits by either rule, and the seconds of plain C, which alone
+/// follows the first.
+pub struct Visits {
+    pub cells: usize,
+    pub first: usize,
+    pub tight: usize,
+    pub first_taken: f64,
+    pub tight_taken: f64,
+}
+
+/// What a tracing of one outlet gave: four figures, what was visited, and the first start.
+pub struct Traced {
+    pub figures: Vec<Figure>,
+    pub visits: Visits,
+    pub start: u32,
+}
+
+/// The plain sets hold the subaccumulation of the outlet.
 #[allow(clippy::too_many_arguments)]
 pub fn tracing(
     engine: Engine,
@@ -32,7 +49,7 @@ pub fn tracing(
     runs: Runs,
     sets: &Sets,
     clock: &mut Clock,
-) -> (Vec<Figure>, u32) {
+) -> Traced {
     let Terrain { rows, cols, codes, accumulation } = terrain;
     let outlets = [outlet];
     let walking = runs.walking(steps);
@@ -76,10 +93,10 @@ pub fn tracing(
         found.set(results);
         taken
     };
-    let plain = |dropping: bool, found: &Cell<[u32; 5]>| {
+    let plain = |rule: Rule, found: &Cell<[u32; 5]>| {
         let Lent { subaccumulation, starts, work, bytes, .. } = &mut *sets.plain.borrow_mut();
         let work = work.all();
-        found.set(plain::search(terrain, subaccumulation, bytes, outlet, dropping, starts, work));
+        found.set(plain::search(terrain, subaccumulation, bytes, outlet, rule, starts, work));
     };
     let rust = |dropping: bool, found: &Cell<[u32; 5]>| {
         let Lent { subaccumulation, starts, work, .. } = &mut *sets.rust.borrow_mut();
@@ -100,7 +117,7 @@ pub fn tracing(
         accepted(answer.number());
         found.set(answer.results());
     };
-    let found: [Cell<[u32; 5]>; 6] = Default::default();
+    let found: [Cell<[u32; 5]>; 7] = Default::default();
     let refused_runs = if engine == Engine::Recursion { runs.quick } else { 0 };
     let times = clock.race(vec![
         Contestant::timing_itself(runs.quick, || library(false, &found[0])),
@@ -123,11 +140,15 @@ pub fn tracing(
             );
             assert_eq!(number, 20);
         }),
-        Contestant::new(runs.quick, || plain(false, &found[2])),
-        Contestant::new(runs.quick, || plain(true, &found[3])),
+        Contestant::new(runs.quick, || plain(Rule::None, &found[2])),
+        Contestant::new(runs.quick, || plain(Rule::Tight, &found[3])),
         Contestant::new(rust_runs[0], || rust(false, &found[4])),
         Contestant::new(rust_runs[1], || rust(true, &found[5])),
+        Contestant::new(runs.quick, || plain(Rule::First, &found[6])),
     ]);
+    let [dropping, first] = [1, 6].map(|who| found[who].get());
+    assert_eq!(dropping[..3], first[..3], "the same paths by either rule");
+    assert!(dropping[3] <= first[3], "no more cells visited");
     let paths = found[0].get()[2] as usize;
     let cells = codes.len();
     for (who, dropping, set) in
@@ -156,8 +177,14 @@ pub fn tracing(
             Engine::Recursion => apart(times[dropping], times[2], search, visited),
         });
     }
-    let start = sets.library.borrow().starts[0];
-    (figures, start)
+    let visits = Visits {
+        cells: found[0].get()[3] as usize,
+        first: first[3] as usize,
+        tight: dropping[3] as usize,
+        first_taken: time(times[7]),
+        tight_taken: time(times[4]),
+    };
+    Traced { figures, visits, start: sets.library.borrow().starts[0] }
 }
 
 /// On the largest valley that recursion takes, cut out of the ground so that its checks do not
@@ -181,5 +208,5 @@ pub fn recursion(
     let sets = Sets::new(valley.cells());
     let plain_fill = subaccumulating(terrain, &[outlet], runs, &sets, clock).plain;
     let steps = steps_of(&accumulation);
-    tracing(Engine::Recursion, terrain, outlet, plain_fill, steps, runs, &sets, clock).0
+    tracing(Engine::Recursion, terrain, outlet, plain_fill, steps, runs, &sets, clock).figures
 }

@@ -2,7 +2,7 @@
 
 use super::{checked_outlets, fill, outlet_at, Terrain};
 use crate::lengths::Length;
-use crate::search::Tree;
+use crate::search::{Limit, Tree};
 use crate::subwatershed::Division;
 use crate::{check, Refusal};
 
@@ -85,7 +85,8 @@ impl Traced<'_> {
     /// every place holds the first of them.
     fn end(&self, dropping: bool, starts: &mut [u32]) -> Tracing {
         let longest = self.division.longest(self.outlet);
-        let counts = Tree::above(&self.division, self.outlet).search(dropping);
+        let tree = Tree::above(&self.division, self.outlet);
+        let search = tree.search(dropping.then_some(Limit::Step));
         let paths = longest.starts.len();
         let held = paths.min(starts.len());
         fill(starts, &longest.starts[..held]);
@@ -95,7 +96,7 @@ impl Traced<'_> {
         } else {
             Kind::NoPlace { paths: paths as u32 }
         };
-        Tracing { kind, visited: counts.visited, dropped: counts.dropped }
+        Tracing { kind, visited: search.visited, dropped: search.dropped }
     }
 }
 

@@ -18,6 +18,7 @@ use Rattle.ground.specs.Grid.{Grid, cellCount, ground}
 use Rattle.search.specs.Tracing.{Tracing, longestLength, pathCount, startCells, tracing}
 use Rattle.search.specs.Demand.{anyCell, Demand3}
 use Rattle.search.proofs.Demand3.{demand3}
+use Rattle.search.proofs.Tighter.{no-more-visited}
 use Rattle.answers.specs.Checks.{Check, firstFailed, allPass}
 use Rattle.answers.specs.Checks.{check10, check11, check12, check14, check15, check16, check17, check18}
 use Rattle.answers.specs.Checks.{check19, check20, check21}
@@ -140,11 +141,13 @@ module _ (q : Call) where
       visited = rw (t .answers, e);
       dropped = rw (t .answers, e);
       all-cells = rw (t .answers, e) (p .counts);
+      no-more-visited = rw (t .answers, e) (no-more-visited (q .dropping) grid outlets (chosen q));
     }
     counted p (inr e) = record {
       visited = rw (t .answers, e);
       dropped = rw (t .answers, e);
       all-cells = rw (t .answers, e) (p .counts);
+      no-more-visited = rw (t .answers, e) (no-more-visited (q .dropping) grid outlets (chosen q));
     }
 
     -- on 0 the first places hold all of them

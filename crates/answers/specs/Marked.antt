@@ -9,9 +9,9 @@ use Rattle.lengths.specs.declared.Order.the-variants.{Shorter, Longer}
 use Rattle.lengths.specs.Rule.{counts}
 use Rattle.answers.specs.Entries.{Catchment, catchment}
 use Rattle.answers.specs.FlowLengths.{lengthGrids}
-use Rattle.answers.specs.MarkedRows.{nines, found, noPlace, refused, stack, wiped, ways}
+use Rattle.answers.specs.MarkedRows.{nines, found, noPlace, refused, stack, wiped, ifDropping, ways}
 use Rattle.answers.specs.MarkedRows.{Mark, compares, accumulates, checks, subaccumulates, traces, calls, draws}
-use Rattle.answers.specs.MarkedRows.{measures, eachWay, accumulated}
+use Rattle.answers.specs.MarkedRows.{measures, visitsByFirst, eachWay, accumulated}
 
 -- ---- M1 to M11
 
@@ -30,6 +30,9 @@ ground2 outlets = accumulated 1 3 codes2 outlets
 abbrev pub ground3 : Catchment
 ground3 = accumulated 1 4 codes3 (1 ∷ [])
 
+abbrev pub ground4 : List ℕ → Catchment
+ground4 outlets = accumulated 3 3 codes4 outlets
+
 -- M2 with another accumulation
 abbrev pub ground10 : Catchment
 ground10 = catchment 1 3 codes2 (1 ∷ 3 ∷ 2 ∷ []) (1 ∷ [])
@@ -45,13 +48,16 @@ markedCases =
     -- M3, the desk's example too: 4 cells, visited 3, dropped 1
     ∷ accumulates 1 4 codes3 (nines 5) 0 (1 ∷ 4 ∷ 2 ∷ 1 ∷ 9 ∷ [])
     ∷ traces ground3 0 (1 ∷ 4 ∷ 2 ∷ 1 ∷ 9 ∷ []) (ways 2 0 1 3 1 4 (3 ∷ 9 ∷ 9 ∷ []) ∷ [])
-    -- M4
+    ∷ visitsByFirst ground3 0 3 1
+    -- M4: visited 8, dropped 1, the cell north of cell 4; by 01's rule all 9
     ∷ accumulates 3 3 codes4 (nines 10) 0 (1 ∷ 1 ∷ 1 ∷ 1 ∷ 6 ∷ 1 ∷ 1 ∷ 9 ∷ 1 ∷ 9 ∷ [])
-    ∷ traces (accumulated 3 3 codes4 (7 ∷ [])) 0 (1 ∷ 1 ∷ 1 ∷ 1 ∷ 6 ∷ 1 ∷ 1 ∷ 9 ∷ 1 ∷ 9 ∷ [])
-    (ways 1 1 2 9 0 9 (0 ∷ 2 ∷ 9 ∷ []) ∷ [])
-    -- M5
-    ∷ traces (accumulated 3 3 codes4 (7 ∷ 4 ∷ [])) 0 (1 ∷ 1 ∷ 1 ∷ 1 ∷ 6 ∷ 1 ∷ 1 ∷ 3 ∷ 1 ∷ 9 ∷ [])
-    (ways 1 0 2 3 0 3 (8 ∷ 6 ∷ 9 ∷ []) ∷ ways 0 1 2 6 0 6 (0 ∷ 2 ∷ 9 ∷ []) ∷ [])
+    ∷ traces (ground4 (7 ∷ [])) 0 (1 ∷ 1 ∷ 1 ∷ 1 ∷ 6 ∷ 1 ∷ 1 ∷ 9 ∷ 1 ∷ 9 ∷ [])
+    (ways 1 1 2 8 1 9 (0 ∷ 2 ∷ 9 ∷ []) ∷ [])
+    ∷ visitsByFirst (ground4 (7 ∷ [])) 0 9 0
+    -- M5, with the same cell dropped
+    ∷ traces (ground4 (7 ∷ 4 ∷ [])) 0 (1 ∷ 1 ∷ 1 ∷ 1 ∷ 6 ∷ 1 ∷ 1 ∷ 3 ∷ 1 ∷ 9 ∷ [])
+    (ways 1 0 2 3 0 3 (8 ∷ 6 ∷ 9 ∷ []) ∷ ways 0 1 2 5 1 6 (0 ∷ 2 ∷ 9 ∷ []) ∷ [])
+    ∷ visitsByFirst (ground4 (7 ∷ 4 ∷ [])) 1 6 0
     -- M6: a ring
     ∷ accumulates 1 2 (1 ∷ 16 ∷ []) (nines 3) 13 (0 ∷ 0 ∷ 9 ∷ [])
     -- M7: a null cell, and no outlet
@@ -201,12 +207,12 @@ ponds =
     (0 ∷ 0 ∷ 0 ∷ 2 ∷ 0 ∷ 0 ∷ 0 ∷ 1 ∷ 0 ∷ 0 ∷ 0 ∷ 0 ∷ 9 ∷ []) (zeros 12 ++ (9 ∷ [])))
     ∷ draws pondBeside 0 0 (nines 3) 22 (nines 3) []
     ∷ draws pondBeside 0 5 (nines 3) 22 (nines 3) []
-    -- as outlet: four paths end at it
+    -- as outlet: four paths end at it; with dropping the straight inflows after the first diagonal one are dropped
     ∷ measures pondOutlet 0 (lengthGrids
     (0 ∷ 1 ∷ 0 ∷ 1 ∷ 0 ∷ 1 ∷ 0 ∷ 1 ∷ 0 ∷ 9 ∷ []) (1 ∷ 0 ∷ 1 ∷ 0 ∷ 0 ∷ 0 ∷ 1 ∷ 0 ∷ 1 ∷ 9 ∷ [])
     (zeros 9 ++ (9 ∷ [])) (0 ∷ 0 ∷ 0 ∷ 0 ∷ 1 ∷ 0 ∷ 0 ∷ 0 ∷ 0 ∷ 9 ∷ []))
     ∷ draws pondOutlet 0 8 (nines 3) 0 (8 ∷ 4 ∷ 9 ∷ []) (8 ∷ 4 ∷ [])
-    ∷ eachWay (λ way. calls way pondOutlet 0 (nines 5) 28 (found 0 1 4 9 0)
+    ∷ eachWay (λ way. calls way pondOutlet 0 (nines 5) 28 (ifDropping (found 0 1 4 6 3) (found 0 1 4 9 0) way)
     (1 ∷ 1 ∷ 1 ∷ 1 ∷ 9 ∷ 1 ∷ 1 ∷ 1 ∷ 1 ∷ 9 ∷ []) (8 ∷ 6 ∷ 0 ∷ 2 ∷ 9 ∷ []) (wiped 27 way))
 
 -- THE TABLE

@@ -4,14 +4,14 @@
 use mathlib.Core.Bool.{Bool, true, false}
 use mathlib.Core.List.{List, [], _∷_, _++_, map}
 use Prim.Native.Nat.{ℕ, suc, _*_}
-use lib.ListN.{length, replicate}
+use lib.ListN.{length, replicate, getD}
 use Rattle.lists.specs.Lists.{upTo}
 use Rattle.lists.specs.Slices.{zeros}
 use Rattle.lengths.specs.declared.Length.{Length}
 use Rattle.lengths.specs.declared.Order.{Order}
 use Rattle.lengths.specs.Rule.{compared}
 use Rattle.ground.specs.Grid.{Grid, gridOf, cellCount}
-use Rattle.search.specs.Tracing.{numbersEach}
+use Rattle.search.specs.Tracing.{numbersEach, firstTracing}
 use Rattle.answers.specs.declared.Answer.the-variants.{Found, NoPlace, Refused}
 use Rattle.answers.specs.declared.Traced.{Traced}
 use Rattle.answers.specs.Entries.{Catchment, catchment, accumulateNumber, accumulateLeaves, checkNumber}
@@ -49,6 +49,13 @@ abbrev pub wiped : ℕ → Tracer → List ℕ
 wiped n (stack dropping) = zeros n ++ (9 ∷ [])
 wiped n (recursion dropping) = nines (suc n)
 
+-- what is told with dropping, and without
+abbrev pub ifDropping : Traced → Traced → Tracer → Traced
+ifDropping dropping plain (stack true) = dropping
+ifDropping dropping plain (stack false) = plain
+ifDropping dropping plain (recursion true) = dropping
+ifDropping dropping plain (recursion false) = plain
+
 -- an outlet by each of the four: what is answered, and what is left in a list of three places and in a working space
 -- with one number more than is needed
 pub record TracedWays : Type 0 where
@@ -62,7 +69,7 @@ ways a b paths visited dropped cells starts =
     let dropping = found a b paths visited dropped in
     let plain = found a b paths cells 0 in
     record {
-      answers = dropping ∷ plain ∷ dropping ∷ plain ∷ [];
+      answers = map (ifDropping dropping plain) tracers;
       starts = replicate {A = List ℕ} 4 starts;
       work = map (wiped (3 * cells)) tracers;
     }
@@ -87,6 +94,8 @@ pub data Mark : Type 0 where
   draws : Catchment → (place start : ℕ) (room : List ℕ) → ℕ → List ℕ → List ℕ → Mark
   -- flow lengths: the number, what is left in the four grids
   measures : Catchment → ℕ → LengthGrids → Mark
+  -- what 01's rule visits and drops from the outlet at a place of the list, to be compared with
+  visitsByFirst : Catchment → (place : ℕ) → (visited dropped : ℕ) → Mark
 
 -- a row for each of the four
 abbrev pub eachWay : (Tracer → Mark) → List Mark
@@ -156,3 +165,6 @@ worked (measures c n kept) =
     let old = lentGrid (c .grid) in
     let four = lengthGrids old old old old in
     measures c (flowLengthsNumber c four) (flowLengthsLeaves c four)
+worked (visitsByFirst c place visited dropped) =
+    let t = firstTracing true (c .grid) (c .outlets) (getD (c .outlets) place 0) in
+    visitsByFirst c place (t .visited) (t .dropped)

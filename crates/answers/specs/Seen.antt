@@ -9,6 +9,7 @@ use Rattle.lengths.specs.declared.Length.{Length}
 use Rattle.lists.specs.Lists.{In, Sorted, howMany}
 use Rattle.ground.specs.Grid.{cellCount}
 use Rattle.ground.specs.Subwatershed.{inSubwatershed, HasLength, Before, Longest}
+use Rattle.search.specs.Tracing.{firstTracing}
 use Rattle.search.specs.Demand.{anyCell}
 use Rattle.answers.specs.declared.Answer.the-variants.{Found, NoPlace}
 use Rattle.answers.specs.declared.Traced.{Traced}
@@ -26,12 +27,15 @@ pub record LongestStarts (c : Catchment) (o : ℕ) (cells : List ℕ) : Type 0 w
   pub ordered : Sorted (Before (c .grid) (c .outlets)) cells
 
 module _ (q : Call) (r : Traced) where
-  -- visited and dropped are what 01's search counts, and together the cells of the subwatershed
+  -- visited and dropped are what the search counts, together the cells of the subwatershed, and no more are visited
+  -- than by 01's rule
   pub record SearchCounts : Type 0 where
     pub visited : r .visited ≡ chosenTracing q .visited
     pub dropped : r .dropped ≡ chosenTracing q .dropped
     pub all-cells : let c = q .catchment in
         r .visited + r .dropped ≡ howMany (inSubwatershed (c .grid) (c .outlets) (chosen q)) (cellCount (c .grid))
+    pub no-more-visited : let c = q .catchment in
+        r .visited ≤ firstTracing (q .dropping) (c .grid) (c .outlets) (chosen q) .visited
 
   module _ (starts : List ℕ) where
     -- on 0: found, with the length of each listed cell's walk, and as many paths as there are cells listed

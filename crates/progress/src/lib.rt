@@ -117,10 +117,11 @@ pub fn drop_cells(p: Progress, n: u32) -> Progress
     }
 }
 
-// Is a neighbour of n cells above this length to be dropped? Not before a length is met, and not at a tie.
+// Is a neighbour with n cells, itself at this length, to be dropped? Exactly if its length and n - 1 diagonal steps are
+// shorter than the greatest length met: not before one is met, and not at a tie.
 pub fn is_dropped(dropping: bool, len: Length, n: u32, p: Progress) -> bool
-    requires { ⌜ (len .diagonal ≤ 2 ^ 24) × (n ≤ 2 ^ 24) ⌝ }
-    ensures { λ r. ⌜ r ≡ (dropping && isBelow (farthest squareCells len n) p) ⌝ }
+    requires { ⌜ (len .diagonal ≤ 2 ^ 24) × (0 < n) × (n ≤ 2 ^ 24) ⌝ }
+    ensures { λ r. ⌜ r ≡ (dropping && isBelow (farthest squareCells len (n - 1)) p) ⌝ }
 {
     if !dropping {
         return false;
@@ -129,7 +130,7 @@ pub fn is_dropped(dropping: bool, len: Length, n: u32, p: Progress) -> bool
         return false;
     }
     let greatest = p.greatest;
-    match len.farthest(n).compare(greatest) {
+    match len.farthest(n - 1).compare(greatest) {
         Order::Shorter => true,
         Order::Same => false,
         Order::Longer => false,

@@ -4,7 +4,7 @@ use mathlib.Core.Path.{_≡_, refl, sym, ap, _∙_}
 use mathlib.Core.Bool.{Bool, true, false, _&&_}
 use mathlib.Core.List.{List, [], _∷_}
 use mathlib.Core.Option.{none}
-use Prim.Native.Nat.{ℕ, zero, suc, _+_, _-_, _*_, _≤_, _<_}
+use Prim.Native.Nat.{ℕ, zero, suc, _+_, _-_, _*_, _≤_, _<_, _^_}
 use native.Mathlib.Numerals.{add-one}
 use native.Mathlib.Omega.{arith}
 use lib.ListN.{getD, drop}
@@ -13,10 +13,10 @@ use Rattle.lengths.specs.declared.Length.{Length}
 use Rattle.lengths.specs.Rule.{plusStep}
 use Rattle.lengths.specs.Lengths.{squareCells, farthest}
 use Rattle.ground.specs.Compass.{Dir, dirs, opposite, stepOf, squares}
-use Rattle.ground.specs.Grid.{Grid, gridOf, codeAt, ground}
+use Rattle.ground.specs.Grid.{Grid, gridOf, ground}
 use Rattle.ground.specs.Accumulation.{subaccumulation}
-use Rattle.ground.proofs.Cells.{code-inside}
-use Rattle.moves.specs.Moves.{dirAt, leadOf, stepBy}
+use Rattle.ground.proofs.Ground.{sub-size}
+use Rattle.moves.specs.Moves.{dirAt}
 use Rattle.search.specs.Search.{State, Rule, tracingRule, drops, dropCells}
 use Rattle.search.specs.Neighbours.{inflowIn, cellsIn, turnTo, enter}
 use Rattle.search.proofs.Neighbours.{
@@ -31,8 +31,8 @@ use Rattle.search.proofs.Neighbours.{
 }
 use Rattle.progress.specs.declared.Progress.{Progress}
 use Rattle.progress.specs.Starts.{isBelow, startsOf, stateOf}
-use Rattle.upstream.specs.Ready.{Ready}
-use Rattle.upstream.proofs.Entering.{one-step, own-step, drops-by}
+use Rattle.upstream.specs.Ready.{Ready, dropsAt}
+use Rattle.upstream.proofs.Entering.{one-step, drops-by}
 use Rattle.recursion.specs.declared.Turn.{Turn}
 use Rattle.recursion.specs.Tracing.{NextTurn, CellReady, InflowsReady, CellTraced, InflowsTraced}
 use Rattle.recursion.proofs.Turning.{dirs-from}
@@ -145,14 +145,8 @@ module _ {rows cols : ℕ} {codes outlets subaccumulations : List ℕ}
     pub cells-are : t .cells ≡ sub y
     cells-are = cells-lent ∙ ready .filled y inside
 
-    code-is : codeAt g y ≡ getD codes y 0
-    code-is = code-inside g y inside
-
     step-is : plusStep len (t .step) ≡ plusStep len (stepOf (opposite (dirAt (t .k))))
-    unfolding leadOf
     step-is = ap (λ (u : Turn). plusStep len (u .step)) (next .is-turn h)
-        ∙ ap (λ (m : ℕ). plusStep len (stepBy (leadOf m))) (sym code-is)
-        ∙ own-step g outlets x (dirAt (t .k)) y found len
 
     -- it has fewer cells than the cell it flows to
     pub fewer : t .cells < sub x
@@ -174,10 +168,24 @@ module _ {rows cols : ℕ} {codes outlets subaccumulations : List ℕ}
         ≡ turnTo squares rule g outlets (dirAt (t .k) ∷ drop (t .k + 1) dirs) x len st
     opened = turned .0 ∙ ap (λ ds. turnTo squares rule g outlets ds x len st) (dirs-from (t .k) h ∙ rw (add-one (t .k)))
 
-    module _ {b : Bool} (tests : b ≡ (dropping && isBelow (farthest squareCells len (t .cells)) p)) where
+    module _ {own : Length} (is-own : own ≡ plusStep len (t .step)) where
+      own-steps : own .straight + own .diagonal ≡ len .straight + len .diagonal + 1
+      own-steps = ap (λ (l : Length). l .straight + l .diagonal) is-own ∙ one-step len (t .step)
+
+      -- what the drop test asks
+      pub testable : (own .diagonal ≤ 2 ^ 24) × (0 < t .cells) × (t .cells ≤ 2 ^ 24)
+      testable = (
+        omega (arith, own-steps, small-len),
+        omega (arith, cells-are, sub-size g (ready .lent) (ready .agreed) outlets y solid),
+        omega (arith, small-cells),
+      )
+
+    module _ {own : Length} (is-own : own ≡ plusStep len (t .step)) {b : Bool}
+        (tests : b ≡ (dropping && isBelow (farthest squareCells own (t .cells - 1)) p)) where
       test : b ≡ drops squares rule (startsOf p old 4096) len (opposite (dirAt (t .k))) (sub y)
-      test = tests ∙ drops-by dropping p old 4096 len (opposite (dirAt (t .k))) (t .cells)
-          ∙ ap (drops squares rule (startsOf p old 4096) len (opposite (dirAt (t .k)))) cells-are
+      test = tests ∙ drops-by dropping p old 4096 own (t .cells)
+          ∙ ap (dropsAt dropping (startsOf p old 4096) own) cells-are
+          ∙ ap (λ (l : Length). dropsAt dropping (startsOf p old 4096) l (sub y)) (is-own ∙ step-is)
 
       -- it is dropped
       abbrev less : Progress
@@ -213,10 +221,7 @@ module _ {rows cols : ℕ} {codes outlets subaccumulations : List ℕ}
       }
 
       -- it is traced
-      module _ (e : b ≡ false) {own : Length} (is-own : own ≡ plusStep len (t .step)) where
-        own-steps : own .straight + own .diagonal ≡ len .straight + len .diagonal + 1
-        own-steps = ap (λ (l : Length). l .straight + l .diagonal) is-own ∙ one-step len (t .step)
-
+      module _ (e : b ≡ false) where
         pub cell-ready : CellReady rows cols codes outlets (t .row) (t .col) own p old
         cell-ready = let u = inflows .bounded in record {
           room = inflows .room;
@@ -225,7 +230,7 @@ module _ {rows cols : ℕ} {codes outlets subaccumulations : List ℕ}
           solid = solid;
           bounded = record {
             cells-fit = omega (arith, left-cells);
-            steps-fit = omega (arith, left-cells, own-steps);
+            steps-fit = omega (arith, left-cells, own-steps is-own);
             few-paths = u .few-paths;
           };
         }

@@ -32,7 +32,7 @@ one-further P k n f p i h l = elim (decLt i n) [ yes m ↦ f i h m | no m ↦ su
 pub next-found : {rows cols : ℕ} {codes outlets subaccumulations : List ℕ} {row col k n : ℕ} → k ≤ n → n ≤ 8
     → ((i : ℕ) → k ≤ i → i < n → inflowIn (gridOf rows cols codes) outlets (row * cols + col) (dirAt i) ≡ none)
     → {s : Spot} → TurnsTo rows cols codes outlets row col n s → {x y : ℕ} → s ≡ On x y
-    → {r : Turn} → r ≡ turnAt cols codes subaccumulations n x y
+    → {r : Turn} → r ≡ turnAt cols subaccumulations n x y
     → NextTurn rows cols codes outlets subaccumulations row col k r
 next-found {rows} {cols} {codes} {outlets} {subaccumulations} {row} {col} {k} a b f t {x} {y} e q =
     subst (λ u. NextTurn rows cols codes outlets subaccumulations row col k u) (sym q) (record {

@@ -8,11 +8,11 @@ use Prim.Native.Nat.{ℕ, _+_, _*_, _≤_, _<_}
 use lib.ListN.{length, getD, drop}
 use lib.Dec.{eqb}
 use Rattle.lengths.specs.declared.Length.{Length}
-use Rattle.ground.specs.Compass.{dirs, squares}
+use Rattle.ground.specs.Compass.{dirs, opposite, stepOf, squares}
 use Rattle.ground.specs.Grid.{gridOf, ground}
 use Rattle.ground.specs.Accumulation.{subaccumulation}
 use Rattle.moves.specs.Lent.{OnCell}
-use Rattle.moves.specs.Moves.{dirAt, leadOf, stepBy}
+use Rattle.moves.specs.Moves.{dirAt}
 use Rattle.search.specs.Search.{State, tracingRule}
 use Rattle.search.specs.Neighbours.{inflowIn, cellsIn, turnTo, enter}
 use Rattle.progress.specs.declared.Progress.{Progress}
@@ -20,14 +20,14 @@ use Rattle.progress.specs.Starts.{stateOf, Visited}
 use Rattle.upstream.specs.Ready.{Searched}
 use Rattle.recursion.specs.declared.Turn.{Turn}
 
--- the turn to neighbour k, at a row and a column: its cells and its step by what is lent
-abbrev pub turnAt : ℕ → List ℕ → List ℕ → ℕ → ℕ → ℕ → Turn
-turnAt cols codes subaccumulations k row col = record {
+-- the turn to neighbour k, at a row and a column: its cells by what is lent, and its step down
+abbrev pub turnAt : ℕ → List ℕ → ℕ → ℕ → ℕ → Turn
+turnAt cols subaccumulations k row col = record {
   k = k;
   row = row;
   col = col;
   cells = getD subaccumulations (row * cols + col) 0;
-  step = stepBy (leadOf (getD codes (row * cols + col) 0));
+  step = stepOf (opposite (dirAt k));
 }
 
 -- a cell whose neighbours are looked at, from k on
@@ -46,7 +46,7 @@ pub record NextTurn (rows cols : ℕ) (codes outlets subaccumulations : List ℕ
       ≡ some (r .row * cols + r .col)
   pub row-in : r .k < 8 → r .row < rows
   pub col-in : r .k < 8 → r .col < cols
-  pub is-turn : r .k < 8 → r ≡ turnAt cols codes subaccumulations (r .k) (r .row) (r .col)
+  pub is-turn : r .k < 8 → r ≡ turnAt cols subaccumulations (r .k) (r .row) (r .col)
 
 -- a cell was visited; a headwater, of one cell, has met its length
 pub record VisitedAt (subaccumulations : List ℕ) (x : ℕ) (len : Length) (p : Progress) (old : List ℕ) (r : Progress)

@@ -2,12 +2,12 @@
 use lengths::Length;
 use lengths::Step;
 use moves::Spot;
-use moves::step_of;
 use progress::Progress;
 use progress::begin;
 use progress::drop_cells;
 use progress::is_dropped;
 use progress::visit;
+use upstream::step_at;
 use upstream::tributary_from;
 ghost use mathlib.Core.Path.{_≡_};
 ghost use Prim.Native.Nat.{_+_, _*_, _≤_, _<_, _^_};
@@ -27,25 +27,16 @@ pub struct Turn {
 }
 
 // The turn to a neighbour.
-fn turn_at(
-    cols: usize,
-    codes: &[u8],
-    subaccumulation: &[u32],
-    k: usize,
-    row: usize,
-    col: usize,
-) -> Turn
-    requires { ⌜ (row * cols + col < length (now codes)) × (row * cols + col < length (now subaccumulation))
-        × (row * cols + col < 2 ^ 24) ⌝ }
-    ensures { λ r. ⌜ r ≡ turnAt cols (now (codes .entry)) (now (subaccumulation .entry)) k row col ⌝ }
+fn turn_at(cols: usize, subaccumulation: &[u32], k: usize, row: usize, col: usize) -> Turn
+    requires { ⌜ (row * cols + col < length (now subaccumulation)) × (row * cols + col < 2 ^ 24) ⌝ }
+    ensures { λ r. ⌜ r ≡ turnAt cols (now (subaccumulation .entry)) k row col ⌝ }
 {
-    let at = row * cols + col;
     Turn {
         k,
         row,
         col,
-        cells: subaccumulation[at],
-        step: step_of(codes[at]),
+        cells: subaccumulation[row * cols + col],
+        step: step_at(k),
     }
 }
 
@@ -77,7 +68,7 @@ fn next_turn(
             col,
             at,
         ) {
-            return turn_at(cols, codes, subaccumulation, at, r, c);
+            return turn_at(cols, subaccumulation, at, r, c);
         }
     }
     Turn {
@@ -170,7 +161,9 @@ fn trace_inflows(
         return p;
     }
     let left = t.k + 1;
-    if is_dropped(dropping, len, t.cells, p) {
+    let step = t.step;
+    let longer = len.plus(step);
+    if is_dropped(dropping, longer, t.cells, p) {
         let q = drop_cells(p, t.cells);
         return trace_inflows(
             rows,
@@ -187,8 +180,6 @@ fn trace_inflows(
             found,
         );
     }
-    let step = t.step;
-    let longer = len.plus(step);
     let q = trace_cell(
         rows,
         cols,

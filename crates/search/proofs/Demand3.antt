@@ -24,11 +24,11 @@ use Rattle.ground.proofs.Network.{first-listed, cells-first}
 use Rattle.ground.proofs.Subwatersheds.{first-meets, true-belongs}
 use Rattle.ground.proofs.GridNetwork.{inflows-rise}
 use Rattle.ground.proofs.Ground.{𝓝, squares-laws, inside-test, sub-cells, sub-size, length-first}
-use Rattle.search.specs.Search.{exceeded, longest, Rule, firstRule, searchFrom}
+use Rattle.search.specs.Search.{exceeded, longest, Rule, tightLimit, tracingRule, searchFrom}
 use Rattle.search.specs.Tracing.{firstLength, tracingBy, tracing}
 use Rattle.search.specs.Demand.{anyCell, Demand3}
 use Rattle.search.proofs.Meeting.{longest-is, is-longest}
-use Rattle.search.proofs.Dropping.{search-all, none-dropped}
+use Rattle.search.proofs.Dropping.{tight-covers, search-all, none-dropped}
 use Rattle.search.proofs.Headwaters.{search-all-longest, longest-some}
 use Rattle.search.proofs.Ordered.{parts-asym, longest-sorted}
 
@@ -259,13 +259,13 @@ module _ (g : Grid) (a : List ℕ) (h : agrees g a ≡ true) (outlets : List ℕ
   outlet-inside : InSubwatershed g outlets o o
   outlet-inside = record { steps = 0; meets = after-zero (next g) o; no-other = λ j x i. absurd (omega arith) }
 
-  first-lists : (dropping : Bool) → (searchFrom squares (firstRule squares dropping) o (forest g outlets o)) .starts
+  lists : (dropping : Bool) → (searchFrom squares (tracingRule squares dropping) o (forest g outlets o)) .starts
       ≡ longest squares (only (λ x. anyCell (x .cell)) cells)
-  first-lists dropping = search-all-longest squares squares-laws dropping o (forest g outlets o)
-      ∙ ap (longest squares) (sym (only-all cells))
+  lists dropping = search-all-longest squares squares-laws (tightLimit squares) (tight-covers squares squares-laws)
+      dropping o (forest g outlets o) ∙ ap (longest squares) (sym (only-all cells))
 
   -- THE THEOREM: with and without dropping
   pub demand3 : (dropping : Bool) → Demand3 g outlets anyCell o (tracing dropping g outlets o)
       (tracing false g outlets o)
-  demand3 dropping = demand anyCell (firstRule squares dropping) (firstRule squares false) refl (first-lists dropping)
-      (first-lists false) o outlet-inside refl
+  demand3 dropping = demand anyCell (tracingRule squares dropping) (tracingRule squares false) refl (lists dropping)
+      (lists false) o outlet-inside refl

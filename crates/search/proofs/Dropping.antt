@@ -1,9 +1,9 @@
 -- THE SEARCH LISTS THE LONGEST, whatever it drops; and every cell is visited or dropped.
 -- Assumes nothing.
-use mathlib.Core.Path.{_≡_, refl, sym, ap, _∙_}
+use mathlib.Core.Path.{_≡_, refl, sym, ap, _∙_, subst}
 use mathlib.Core.Bool.{Bool, true, false, _&&_, true≢false}
 use mathlib.Core.List.{List, [], _∷_}
-use Prim.Native.Nat.{ℕ, zero, suc, _+_, _≤_}
+use Prim.Native.Nat.{ℕ, zero, suc, _+_, _-_, _≤_}
 use native.Mathlib.Omega.{arith}
 use Rattle.lengths.specs.Lengths.{Lengths}
 use Rattle.lengths.proofs.Laws.{LengthLaws, irrefl}
@@ -11,13 +11,13 @@ use Rattle.lists.specs.Lists.{Every, keepIf}
 use Rattle.ground.specs.Walk.{At}
 use Rattle.ground.specs.Forest.{Forest, bare, tree, size, Which, cellsAbove, cellsFrom}
 use Rattle.lists.proofs.Lists.{every-append, every-map, every-keep, keep-append}
-use Rattle.search.specs.Search.{longest, State, fresh, meetIf, belowGreatest, Rule, firstRule, drops, dropCells}
-use Rattle.search.specs.Search.{visit, searchAbove, searchFrom}
+use Rattle.search.specs.Search.{longest, State, fresh, meetIf, belowGreatest, Limit, Rule, firstLimit, tightLimit}
+use Rattle.search.specs.Search.{drops, dropCells, visit, searchAbove, searchFrom}
 use Rattle.lengths.specs.Lengths.{farthest}
 use Rattle.search.proofs.Meeting.{AtMost, meets, meets-append, meets-keep, le-lt, meets-longest}
 use Rattle.search.proofs.Meeting.{meets-vain}
 
-and-right : (a b : Bool) → (a && b) ≡ true → b ≡ true
+pub and-right : (a b : Bool) → (a && b) ≡ true → b ≡ true
 and-right true b h = h
 and-right false b h = absurd (true≢false (sym h))
 
@@ -58,13 +58,23 @@ module _ {S : Type 0} (𝓛 : Lengths S) (laws : LengthLaws 𝓛) where
   far-more (suc n) zero x h = absurd (omega arith)
   far-more (suc n) (suc m) x h = far-more n m (x ▹ top) (omega arith)
 
-  -- a limit under which no cell is dropped wrongly: no walk into a neighbour of n cells is longer
-  unfoldable pub Covers : Rule 𝓛 → Type 0
-  Covers rule = (d : Len) (s : S) (n : ℕ) → AtMost 𝓛 (farthest 𝓛 (d ▹ s) n) (rule .limit d s (suc n))
+  -- beyond the step into a neighbour each of its other cells is one of the longest steps
+  tight-is : (d : Len) (s : S) (n : ℕ) → tightLimit 𝓛 d s (suc n) ≡ farthest 𝓛 (d ▹ s) n
+  tight-is d s n = let e : suc n - 1 ≡ n = omega arith in ap (farthest 𝓛 (d ▹ s)) e
 
-  pub first-covers : (dropping : Bool) → Covers (firstRule 𝓛 dropping)
+  -- a limit under which no cell is dropped wrongly: no walk into a neighbour of n cells is longer. The tight limit is
+  -- the least of these
+  unfoldable pub Covers : Limit 𝓛 → Type 0
+  Covers limit = (d : Len) (s : S) (n : ℕ) → AtMost 𝓛 (tightLimit 𝓛 d s (suc n)) (limit d s (suc n))
+
+  pub tight-covers : Covers (tightLimit 𝓛)
   unfolding Covers
-  first-covers dropping d s n = far-mono n (d ▹ s) (d ▹ top) (at-top d s)
+  tight-covers d s n = irrefl 𝓛 laws (tightLimit 𝓛 d s (suc n))
+
+  pub first-covers : Covers (firstLimit 𝓛)
+  unfolding Covers
+  first-covers d s n = subst (λ l. AtMost 𝓛 l (firstLimit 𝓛 d s (suc n))) (sym (tight-is d s n))
+      (far-mono n (d ▹ s) (d ▹ top) (at-top d s))
 
   wider : (k l : Len) (xs : List (At Len)) → AtMost 𝓛 k l → Every (λ x. AtMost 𝓛 (x .len) k) xs
       → Every (λ x. AtMost 𝓛 (x .len) l) xs
@@ -94,7 +104,7 @@ module _ {S : Type 0} (𝓛 : Lengths S) (laws : LengthLaws 𝓛) where
       (wider (farthest 𝓛 d (size rest)) (farthest 𝓛 d (size (tree c s above rest))) (cellsAbove 𝓛 w d rest)
       (far-more (size rest) (size (tree c s above rest)) d (omega arith)) (within w d rest)))
 
-  module _ (rule : Rule 𝓛) (covers : Covers rule) where
+  module _ (rule : Rule 𝓛) (covers : Covers (rule .limit)) where
     -- a dropped valley is met in vain
     pub drop-vain : (gs : List (At Len)) (d : Len) (c : ℕ) (s : S) (above : Forest S)
         → belowGreatest 𝓛 gs (rule .limit d s (suc (size above))) ≡ true
@@ -105,7 +115,8 @@ module _ {S : Type 0} (𝓛 : Lengths S) (laws : LengthLaws 𝓛) where
         (every-map (λ x. AtMost 𝓛 (x .len) (farthest 𝓛 (d ▹ s) (size above))) (λ x. shorter (x .len) (g .len) ≡ true)
         (λ x i. le-lt 𝓛 laws (x .len) (rule .limit d s (suc (size above))) (g .len)
         (trans (x .len) (farthest 𝓛 (d ▹ s) (size above)) (rule .limit d s (suc (size above))) i
-        (covers d s (size above))) h)
+        (subst (λ l. AtMost 𝓛 l (rule .limit d s (suc (size above)))) (tight-is d s (size above))
+        (covers d s (size above)))) h)
         (valley 𝓛 (rule .meets) d c s above)
         (valley-within (rule .meets) d c s above (within (rule .meets) (d ▹ s) above)))
 

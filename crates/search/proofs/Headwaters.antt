@@ -11,9 +11,9 @@ use Rattle.lists.specs.Lists.{keepIf}
 use Rattle.ground.specs.Walk.{At}
 use Rattle.ground.specs.Forest.{Forest, bare, tree, everyCell, cellsAbove, cellsFrom}
 use Rattle.lists.proofs.Lists.{keep-append}
-use Rattle.search.specs.Search.{headwater, longest, meet, firstRule, searchFrom}
+use Rattle.search.specs.Search.{headwater, longest, meet, Limit, firstRule, limitedBy, searchFrom}
 use Rattle.search.proofs.Meeting.{meet-shorter, meet-longer, meet-tie, meets, meets-append, meets-longest, le-lt}
-use Rattle.search.proofs.Dropping.{search-longest, first-covers}
+use Rattle.search.proofs.Dropping.{Covers, search-longest}
 
 module _ {S : Type 0} (𝓛 : Lengths S) (laws : LengthLaws 𝓛) where
   open Lengths 𝓛 using (Len, start, _▹_, shorter)
@@ -71,11 +71,13 @@ module _ {S : Type 0} (𝓛 : Lengths S) (laws : LengthLaws 𝓛) where
       ∙ one-cell (record { cell = o; len = start }) above (heads-meet start above) []
       ∙ meets-longest 𝓛 laws (cellsFrom 𝓛 everyCell o above)
 
-  -- 01's search, with or without dropping, lists every cell of the subwatershed that no cell of it exceeds
-  pub search-all-longest : (dropping : Bool) (o : ℕ) (above : Forest S)
-      → (searchFrom 𝓛 (firstRule 𝓛 dropping) o above) .starts ≡ longest 𝓛 (cellsFrom 𝓛 everyCell o above)
-  search-all-longest dropping o above = search-longest 𝓛 laws (firstRule 𝓛 dropping) (first-covers 𝓛 laws dropping) o
-      above ∙ heads-longest o above
+  -- 01's search by any limit that covers, with or without dropping, lists every cell of the subwatershed that no cell
+  -- of it exceeds
+  pub search-all-longest : (limit : Limit 𝓛) → Covers 𝓛 laws limit → (dropping : Bool) (o : ℕ) (above : Forest S)
+      → (searchFrom 𝓛 (limitedBy 𝓛 limit (firstRule 𝓛 dropping)) o above) .starts
+      ≡ longest 𝓛 (cellsFrom 𝓛 everyCell o above)
+  search-all-longest limit covers dropping o above =
+      search-longest 𝓛 laws (limitedBy 𝓛 limit (firstRule 𝓛 dropping)) covers o above ∙ heads-longest o above
 
   -- the list of the longest is not empty
   meets-some : (g : At Len) (gs xs : List (At Len)) → meets 𝓛 (g ∷ gs) xs ≡ [] → ⊥

@@ -3,6 +3,7 @@ pub mod Dropping
 pub mod Headwaters
 pub mod Ordered
 pub mod Demand3
+pub mod Tighter
 pub mod Faithful
 pub mod Neighbours
 pub mod FlowLengths

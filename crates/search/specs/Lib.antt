@@ -2,4 +2,5 @@ pub mod Search
 pub mod Neighbours
 pub mod Tracing
 pub mod Demand
+pub mod Tighter
 pub mod Smith

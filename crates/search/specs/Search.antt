@@ -2,7 +2,7 @@
 -- Assumes nothing.
 use mathlib.Core.Bool.{Bool, true, false, not, _&&_, _||_}
 use mathlib.Core.List.{List, [], _∷_, _++_}
-use Prim.Native.Nat.{ℕ, suc, _+_}
+use Prim.Native.Nat.{ℕ, suc, _+_, _-_}
 use Rattle.lengths.specs.Lengths.{Lengths, farthest}
 use Rattle.lists.specs.Lists.{only}
 use Rattle.ground.specs.Walk.{At}
@@ -65,13 +65,21 @@ module _ {S : Type 0} (𝓛 : Lengths S) where
   abbrev pub firstLimit : Limit
   firstLimit d s n = farthest 𝓛 d n
 
+  -- 02's tighter limit: d and the true step into the neighbour, straight or diagonal, plus (n − 1)√2
+  abbrev pub tightLimit : Limit
+  tightLimit d s n = farthest 𝓛 (d ▹ s) (n - 1)
+
   -- 01's rule: lengths are met at headwaters
   abbrev pub firstRule : Bool → Rule
   firstRule dropping = record { dropping = dropping; limit = firstLimit; meets = headwater }
 
-  -- the rule of every tracing
+  -- a rule by another limit, and else the same
+  abbrev pub limitedBy : Limit → Rule → Rule
+  limitedBy limit rule = record { dropping = rule .dropping; limit = limit; meets = rule .meets }
+
+  -- the rule of every tracing: 01's, by 02's limit
   abbrev pub tracingRule : Bool → Rule
-  tracingRule = firstRule
+  tracingRule dropping = limitedBy tightLimit (firstRule dropping)
 
   -- 01: a neighbour with its n cells is dropped if even its limit is shorter than the greatest length met; at equal
   -- length it is not, since it may tie

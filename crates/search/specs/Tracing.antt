@@ -10,7 +10,7 @@ use Rattle.ground.specs.Compass.{squares}
 use Rattle.ground.specs.Grid.{Grid}
 use Rattle.ground.specs.Walk.{At}
 use Rattle.ground.specs.Forest.{forest}
-use Rattle.search.specs.Search.{State, Rule, tracingRule, searchFrom}
+use Rattle.search.specs.Search.{State, Rule, firstRule, tracingRule, searchFrom}
 
 -- 01, check 20: so many numbers of the working space are asked for each cell of the subwatershed
 abbrev pub numbersEach : ℕ
@@ -43,3 +43,7 @@ tracingBy rule g outlets o = searchFrom squares rule o (forest g outlets o)
 -- with or without dropping
 abbrev pub tracing : Bool → Grid → List ℕ → ℕ → Tracing
 tracing dropping = tracingBy (tracingRule squares dropping)
+
+-- by 01's rule, to be compared with
+abbrev pub firstTracing : Bool → Grid → List ℕ → ℕ → Tracing
+firstTracing dropping = tracingBy (firstRule squares dropping)

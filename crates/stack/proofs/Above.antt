@@ -10,18 +10,19 @@ use native.Mathlib.Omega.{arith}
 use lib.ListN.{length}
 use Rattle.lengths.specs.declared.Length.{Length}
 use Rattle.lists.specs.Lists.{Every}
-use Rattle.ground.specs.Compass.{Dir, E, squares}
+use Rattle.lengths.specs.Rule.{plusStep}
+use Rattle.ground.specs.Compass.{Dir, opposite, stepOf, squares}
 use Rattle.ground.specs.Grid.{Grid, ground}
 use Rattle.ground.specs.Accumulation.{agrees, subaccumulation}
 use Rattle.ground.proofs.Cells.{ground-within}
 use Rattle.ground.proofs.Ground.{sub-size}
-use Rattle.search.specs.Search.{State, tracingRule, drops, dropCells}
+use Rattle.search.specs.Search.{State, tracingRule, dropCells}
 use Rattle.search.specs.Neighbours.{inflowIn, cellsIn, turnTo, enter}
 use Rattle.search.proofs.Neighbours.{Found, found-in, found-ground, turn-done, turn-none, turn-drops, turn-enters}
 use Rattle.stack.specs.declared.Pending.{Pending}
 use Rattle.stack.specs.Pending.{pendingOf, inflowsAbove}
-use Rattle.upstream.specs.Ready.{ownLength}
-use Rattle.upstream.proofs.Entering.{own-step}
+use Rattle.upstream.specs.Ready.{dropsAt}
+use Rattle.upstream.proofs.Entering.{one-step}
 use Rattle.stack.specs.Draining.{cellOf, cellsPending, Waits, taken, drain}
 
 module _ (g : Grid) (outlets : List ℕ) where
@@ -44,18 +45,18 @@ module _ (g : Grid) (outlets : List ℕ) where
         ≡ drain g outlets dropping ys (drain g outlets dropping xs st)
     unfolding drain
     drain-append [] ys st = refl
-    drain-append (x ∷ xs) ys st = drain-append xs ys (taken g outlets dropping (cellOf g x) (x .below) st)
+    drain-append (x ∷ xs) ys st = drain-append xs ys (taken g outlets dropping (cellOf g x) (x .len) st)
 
-    module _ (y : ℕ) (below : Length) (st : State squares) where
+    module _ (y : ℕ) (len : Length) (st : State squares) where
       abbrev test : Bool
-      test = drops squares (tracingRule squares dropping) (st .starts) below E (sub y)
+      test = dropsAt dropping (st .starts) len (sub y)
 
-      pub taken-drops : test ≡ true → taken g outlets dropping y below st ≡ dropCells squares st (sub y)
+      pub taken-drops : test ≡ true → taken g outlets dropping y len st ≡ dropCells squares st (sub y)
       unfolding taken
       taken-drops e = rw (e, taken)
 
-      pub taken-enters : test ≡ false → taken g outlets dropping y below st
-          ≡ enter squares (tracingRule squares dropping) g outlets y (ownLength g y below) st
+      pub taken-enters : test ≡ false → taken g outlets dropping y len st
+          ≡ enter squares (tracingRule squares dropping) g outlets y len st
       unfolding taken
       taken-enters e = rw (e, taken)
 
@@ -80,7 +81,7 @@ module _ (g : Grid) (outlets : List ℕ) where
             → turnTo squares (tracingRule squares dropping) g outlets ds x len st
             ≡ drain g outlets dropping (above ds) st
         pub cells : cellsPending g outlets (above ds) ≡ cellsIn g outlets ds x
-        pub all-wait : (end : ℕ) → 3 * (len .straight + len .diagonal + cellsIn g outlets ds x) ≤ end
+        pub all-wait : (end : ℕ) → 3 * (len .straight + len .diagonal + 1 + cellsIn g outlets ds x) ≤ end
             → Every (Waits g outlets end) (above ds)
 
       -- a cell found is dropped or entered as the cell that waits for it
@@ -88,28 +89,30 @@ module _ (g : Grid) (outlets : List ℕ) where
         solid : ground g y ≡ true
         solid = found-ground g outlets x d y f
 
+        -- its length
+        abbrev own : Length
+        own = plusStep len (stepOf (opposite d))
+
         turned : (dropping : Bool) (ds : List Dir) (st : State squares)
             → turnTo squares (tracingRule squares dropping) g outlets (d ∷ ds) x len st
-            ≡ turnTo squares (tracingRule squares dropping) g outlets ds x len (taken g outlets dropping y len st)
-        turned dropping ds st = by-test (test dropping y len st) refl
+            ≡ turnTo squares (tracingRule squares dropping) g outlets ds x len (taken g outlets dropping y own st)
+        turned dropping ds st = by-test (test dropping y own st) refl
           where
-            by-test : (b : Bool) → test dropping y len st ≡ b
+            by-test : (b : Bool) → test dropping y own st ≡ b
                 → turnTo squares (tracingRule squares dropping) g outlets (d ∷ ds) x len st
-                ≡ turnTo squares (tracingRule squares dropping) g outlets ds x len (taken g outlets dropping y len st)
+                ≡ turnTo squares (tracingRule squares dropping) g outlets ds x len (taken g outlets dropping y own st)
             by-test true e = turn-drops squares (tracingRule squares dropping) g outlets x d ds len st a agreed y f e
                 ∙ ap (turnTo squares (tracingRule squares dropping) g outlets ds x len)
-                (sym (taken-drops dropping y len st e))
+                (sym (taken-drops dropping y own st e))
             by-test false e = turn-enters squares (tracingRule squares dropping) g outlets x d ds len st a agreed y f e
                 ∙ ap (turnTo squares (tracingRule squares dropping) g outlets ds x len)
-                (sym (taken-enters dropping y len st e
-                ∙ ap (λ (l : Length). enter squares (tracingRule squares dropping) g outlets y l st)
-                (own-step g outlets x d y f len)))
+                (sym (taken-enters dropping y own st e))
 
-        cell-is : cellOf g (pendingOf (g .cols) len y) ≡ y
+        cell-is : cellOf g (pendingOf (g .cols) own y) ≡ y
         cell-is = div-add-mod' y (g .cols)
 
-        waits : (end : ℕ) → 3 * (len .straight + len .diagonal + sub y) ≤ end
-            → Waits g outlets end (pendingOf (g .cols) len y)
+        waits : (end : ℕ) → 3 * (len .straight + len .diagonal + 1 + sub y) ≤ end
+            → Waits g outlets end (pendingOf (g .cols) own y)
         waits end h =
             let i : y < g .rows * g .cols = ground-within g y solid in
             let p : 0 < g .cols = positive (g .cols) i in
@@ -117,7 +120,7 @@ module _ (g : Grid) (outlets : List ℕ) where
               row-in = div-lt-iff-lt-mul p .1 i;
               col-in = mod-lt y p;
               solid = ap (ground g) cell-is ∙ solid;
-              short = omega (arith, ap sub cell-is);
+              short = omega (arith, ap sub cell-is, one-step len (stepOf (opposite d)));
             }
           where
             positive : (n : ℕ) → y < g .rows * n → 0 < n
@@ -142,11 +145,12 @@ module _ (g : Grid) (outlets : List ℕ) where
           }
           by-place (some y) e ih =
               let f = found-in g outlets x d y e in
-              let c : sub (cellOf g (pendingOf (g .cols) len y)) ≡ sub y = ap sub (cell-is d y f) in
+              let l = plusStep len (stepOf (opposite d)) in
+              let c : sub (cellOf g (pendingOf (g .cols) l y)) ≡ sub y = ap sub (cell-is d y f) in
               record {
                 drains = λ dropping st. turned d y f dropping ds st
-                    ∙ ih .drains dropping (taken g outlets dropping y len st)
-                    ∙ rw e (ap (λ (z : ℕ). drain g outlets dropping (above ds) (taken g outlets dropping z len st))
+                    ∙ ih .drains dropping (taken g outlets dropping y l st)
+                    ∙ rw e (ap (λ (z : ℕ). drain g outlets dropping (above ds) (taken g outlets dropping z l st))
                     (sym (cell-is d y f)));
                 cells = rw e (omega (arith, ih .cells, c));
                 all-wait = λ end h. rw e (

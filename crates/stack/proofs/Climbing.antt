@@ -11,7 +11,8 @@ use lib.ListN.{length, getD}
 use lib.Arith.{digits-lt}
 use Rattle.lengths.specs.declared.Length.{Length}
 use Rattle.lists.specs.Lists.{Every, member, sumOf}
-use Rattle.ground.specs.Compass.{Dir, dirs, opposite}
+use Rattle.lengths.specs.Rule.{plusStep}
+use Rattle.ground.specs.Compass.{Dir, dirs, opposite, stepOf}
 use Rattle.ground.specs.Grid.{Grid, gridOf, neighbour, flowsIn, inflowValue, inflowRecord}
 use Rattle.ground.specs.Accumulation.{subaccumulation}
 use Rattle.ground.proofs.Cells.{ground-within, flow-ground, points-flow}
@@ -75,7 +76,7 @@ module _ {rows cols : ℕ} {codes outlets subaccumulations : List ℕ}
       cells-above g (ready .lent) (ready .agreed) outlets x (at .solid),
     )
 
-    pub all-above : (end : ℕ) → 3 * (len .straight + len .diagonal + sub x) ≤ end + 3
+    pub all-above : (end : ℕ) → 3 * (len .straight + len .diagonal + sub x) ≤ end
         → Every (Waits g outlets end) above
     all-above end h = followed .all-wait end (omega (arith, cells-but-one, followed .cells))
 
@@ -146,7 +147,9 @@ module _ {rows cols : ℕ} {codes outlets subaccumulations : List ℕ}
             → Alike ds → Alike (d ∷ ds)
         same-side s ih = record {
           no-fewer = omega (arith, s .1, ih .no-fewer);
-          same = λ h. rw (s .0) (ap (onTop cols len (inflowIn g outlets x d)) (ih .same (omega (arith, s .1))));
+          same = λ h. rw (s .0)
+              (ap (onTop cols (plusStep len (stepOf (opposite d))) (inflowIn g outlets x d))
+              (ih .same (omega (arith, s .1))));
         }
 
         outlet-side : (cellsOf g outlets (inflowIn g outlets x d) ≡ 0) × (1 ≤ value d) → Alike ds → Alike (d ∷ ds)

@@ -41,7 +41,7 @@ module _ {rows cols : ℕ} {codes outlets subaccumulations : List ℕ}
 
   -- ---- by the functions of the source
 
-  module _ {end : ℕ} {p : Progress} {top : ℕ} {old : List ℕ} (fits : Fits (sub x) end p top old) where
+  module _ {len : Length} {end : ℕ} {p : Progress} {top : ℕ} {old : List ℕ} (fits : Fits (sub x) len end p top old) where
     pub room : Room old end p × (p .visited < 2 ^ 24)
     room = (
       record {
@@ -52,7 +52,7 @@ module _ {rows cols : ℕ} {codes outlets subaccumulations : List ℕ}
       fits .few-visited,
     )
 
-    module _ {n : ℕ} (is-n : n ≡ sub x) {len : Length} {q : Progress} {mid : List ℕ}
+    module _ {n : ℕ} (is-n : n ≡ sub x) {q : Progress} {mid : List ℕ}
         (v : Visited old mid end x (eqb n 1) len p q) where
       pub entered : {r : ℕ} {new : List ℕ} → PutOn (inflowsAbove g outlets x len dirs) top mid r new
           → Entered g outlets x len end p top old (record { progress = q; top = r }) new
@@ -110,7 +110,7 @@ module _ {rows cols : ℕ} {codes outlets subaccumulations : List ℕ}
     pub stands : Every (Waits g outlets end) (pending old top)
         → 3 * (p .visited + p .dropped + (sub x + cellsPending g outlets (pending old top))) ≡ end
         → p .paths ≤ p .visited → end ≤ 3 * 2 ^ 24 → end ≤ length new
-        → 3 * (len .straight + len .diagonal + sub x) ≤ end + 3 → Standing g outlets end r new
+        → 3 * (len .straight + len .diagonal + sub x) ≤ end → Standing g outlets end r new
     stands all cells few small within short = record {
       all-wait = rw (e .pending-is)
           (all-append g outlets end above (pending old top) (all-above ready at len end short) all);

@@ -10,7 +10,8 @@ use lib.ListN.{length, getD, set, drop, length-set, length-append}
 use lib.Seq.{getD-set-same, getD-set-other, drop-cons}
 use lib.Arith.{digits-div, digits-mod}
 use Rattle.lengths.specs.declared.Length.{Length}
-use Rattle.ground.specs.Compass.{Dir, NE, dirs}
+use Rattle.lengths.specs.Rule.{plusStep}
+use Rattle.ground.specs.Compass.{Dir, NE, dirs, opposite, stepOf}
 use Rattle.ground.specs.Grid.{Grid}
 use Rattle.moves.specs.Moves.{dirAt}
 use Rattle.search.specs.Neighbours.{inflowIn}
@@ -40,40 +41,40 @@ taken-off l (suc n) h = let e : suc n - 1 ≡ n = omega arith in rw e
 
 -- ---- a cell put on
 
-module _ (l : List ℕ) (n row col : ℕ) (below : Length) (room : 3 * (n + 1) ≤ length l) (small : col < 4096) where
+module _ (l : List ℕ) (n row col : ℕ) (len : Length) (room : 3 * (n + 1) ≤ length l) (small : col < 4096) where
   abbrev first : List ℕ
   first = set l (3 * n) (row * 4096 + col)
 
   abbrev second : List ℕ
-  second = set first (3 * n + 1) (below .straight)
+  second = set first (3 * n + 1) (len .straight)
 
   abbrev stored : List ℕ
-  stored = set second (3 * n + 2) (below .diagonal)
+  stored = set second (3 * n + 2) (len .diagonal)
 
   elsewhere : (i : ℕ) → ((k : ℕ) → k < 3 → i ≡ 3 * n + k → ⊥) → getD stored i 0 ≡ getD l i 0
-  elsewhere i h = getD-set-other second (3 * n + 2) i (below .diagonal) 0 (λ e. h 2 (omega arith) (omega arith))
-      ∙ getD-set-other first (3 * n + 1) i (below .straight) 0 (λ e. h 1 (omega arith) (omega arith))
+  elsewhere i h = getD-set-other second (3 * n + 2) i (len .diagonal) 0 (λ e. h 2 (omega arith) (omega arith))
+      ∙ getD-set-other first (3 * n + 1) i (len .straight) 0 (λ e. h 1 (omega arith) (omega arith))
       ∙ getD-set-other l (3 * n) i (row * 4096 + col) 0 (λ e. h 0 (omega arith) (omega arith))
 
   first-length : length first ≡ length l
   first-length = length-set l (3 * n) (row * 4096 + col)
 
   second-length : length second ≡ length l
-  second-length = length-set first (3 * n + 1) (below .straight) ∙ first-length
+  second-length = length-set first (3 * n + 1) (len .straight) ∙ first-length
 
   place-is : getD stored (3 * n) 0 ≡ row * 4096 + col
-  place-is = getD-set-other second (3 * n + 2) (3 * n) (below .diagonal) 0 (λ e. omega arith)
-      ∙ getD-set-other first (3 * n + 1) (3 * n) (below .straight) 0 (λ e. omega arith)
+  place-is = getD-set-other second (3 * n + 2) (3 * n) (len .diagonal) 0 (λ e. omega arith)
+      ∙ getD-set-other first (3 * n + 1) (3 * n) (len .straight) 0 (λ e. omega arith)
       ∙ getD-set-same l (3 * n) (row * 4096 + col) 0 (omega arith)
 
-  straight-is : getD stored (3 * n + 1) 0 ≡ below .straight
-  straight-is = getD-set-other second (3 * n + 2) (3 * n + 1) (below .diagonal) 0 (λ e. omega arith)
-      ∙ getD-set-same first (3 * n + 1) (below .straight) 0 (omega (arith, first-length))
+  straight-is : getD stored (3 * n + 1) 0 ≡ len .straight
+  straight-is = getD-set-other second (3 * n + 2) (3 * n + 1) (len .diagonal) 0 (λ e. omega arith)
+      ∙ getD-set-same first (3 * n + 1) (len .straight) 0 (omega (arith, first-length))
 
-  diagonal-is : getD stored (3 * n + 2) 0 ≡ below .diagonal
-  diagonal-is = getD-set-same second (3 * n + 2) (below .diagonal) 0 (omega (arith, second-length))
+  diagonal-is : getD stored (3 * n + 2) 0 ≡ len .diagonal
+  diagonal-is = getD-set-same second (3 * n + 2) (len .diagonal) 0 (omega (arith, second-length))
 
-  pub put-one : PutOn (pendingWith row col below ∷ []) n l (n + 1) stored
+  pub put-one : PutOn (pendingWith row col len ∷ []) n l (n + 1) stored
   unfolding pending
   put-one = record {
     pending-is = rw (
@@ -120,7 +121,7 @@ module _ (g : Grid) (outlets : List ℕ) (x : ℕ) (len : Length) where
       by-place : (o : Option ℕ)
           → length (inflowsAbove g outlets x len (drop k ds)) ≤ length (inflowsAbove g outlets x len ds)
           → length (inflowsAbove g outlets x len (drop k ds))
-          ≤ length (onTop (g .cols) len o (inflowsAbove g outlets x len ds))
+          ≤ length (onTop (g .cols) (plusStep len (stepOf (opposite d))) o (inflowsAbove g outlets x len ds))
       by-place none h = h
       by-place (some y) h = omega arith
 
@@ -134,8 +135,12 @@ module _ (g : Grid) (outlets : List ℕ) (x : ℕ) (len : Length) where
     passed e = rw (dirs-before k some-left within, e) put
 
     module _ (row col : ℕ) (e : inflowIn g outlets x (dirAt (k - 1)) ≡ some (row * g .cols + col)) where
+      -- its length
+      abbrev own : Length
+      own = plusStep len (stepOf (opposite (dirAt (k - 1))))
+
       opened : inflowsAbove g outlets x len (drop (k - 1) dirs)
-          ≡ pendingOf (g .cols) len (row * g .cols + col) ∷ inflowsAbove g outlets x len (drop k dirs)
+          ≡ pendingOf (g .cols) own (row * g .cols + col) ∷ inflowsAbove g outlets x len (drop k dirs)
       unfolding inflowsAbove
       opened = rw (dirs-before k some-left within, e)
 
@@ -144,6 +149,7 @@ module _ (g : Grid) (outlets : List ℕ) (x : ℕ) (len : Length) where
       room-left m h = omega (arith, put .count, ap length opened, fewer dirs (k - 1))
 
       -- and it is put on
-      pub joined : col < g .cols → {r : ℕ} {new : List ℕ} → PutOn (pendingWith row col len ∷ []) at mid r new
+      pub joined : col < g .cols → {l : Length} → l ≡ own → {r : ℕ} {new : List ℕ}
+          → PutOn (pendingWith row col l ∷ []) at mid r new
           → PutOn (inflowsAbove g outlets x len (drop (k - 1) dirs)) top old r new
-      joined h p = rw (opened, digits-div row h, digits-mod row h) (put-more put p)
+      joined h e p = rw (opened, digits-div row h, digits-mod row h, sym e) (put-more put p)

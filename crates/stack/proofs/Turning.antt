@@ -6,28 +6,24 @@ use mathlib.Core.List.{List, _∷_}
 use Prim.Native.Nat.{ℕ, _+_, _-_, _*_, _≤_, _<_, _^_}
 use native.Mathlib.Omega.{arith}
 use lib.ListN.{length, getD}
-use lib.Arith.{digits-lt}
 use Rattle.lengths.specs.declared.Length.{Length}
-use Rattle.lengths.specs.Rule.{counts, plusStep}
+use Rattle.lengths.specs.Rule.{counts}
 use Rattle.lengths.specs.Lengths.{squareCells, farthest}
 use Rattle.lists.specs.Lists.{Every}
-use Rattle.ground.specs.Compass.{E, squares}
+use Rattle.ground.specs.Compass.{squares}
 use Rattle.ground.specs.Grid.{Grid, gridOf}
 use Rattle.ground.specs.Accumulation.{subaccumulation}
-use Rattle.moves.specs.Moves.{leadOf}
 use Rattle.ground.specs.Forest.{forest}
-use Rattle.ground.proofs.Cells.{code-inside}
-use Rattle.search.specs.Search.{State, tracingRule, drops, dropCells, searchFrom}
+use Rattle.search.specs.Search.{State, tracingRule, dropCells, searchFrom}
 use Rattle.search.specs.Neighbours.{enter}
 use Rattle.search.proofs.Neighbours.{search-enters}
 use Rattle.progress.specs.declared.Progress.{Progress}
 use Rattle.progress.specs.Starts.{kept, begun, isBelow, stateOf}
-use Rattle.upstream.specs.Ready.{Ready, OnGround, ownLength}
-use Rattle.upstream.proofs.Entering.{one-step, drops-by}
+use Rattle.upstream.specs.Ready.{Ready, OnGround, dropsAt}
+use Rattle.upstream.proofs.Entering.{drops-by}
 use Rattle.stack.specs.declared.Pending.{Pending}
 use Rattle.stack.specs.declared.Stack.{Stack}
-use Rattle.stack.specs.Pending.{pendingAt, pending}
-use Rattle.moves.specs.Moves.{stepBy}
+use Rattle.stack.specs.Pending.{Short, pendingAt, pending}
 use Rattle.stack.specs.Draining.{cellsPending, Waits, Standing, taken, drain}
 use Rattle.stack.specs.Draining.{Turned, Traced, Entered, Fits}
 use Rattle.stack.proofs.Putting.{pending-length, taken-off}
@@ -82,16 +78,25 @@ module _ {rows cols : ℕ} {codes outlets subaccumulations : List ℕ}
       pub on-ground : OnGround rows cols codes (w .row) (w .col)
       on-ground = record { row-in = wait .0 .row-in; col-in = wait .0 .col-in; solid = wait .0 .solid }
 
-      pub small-length : w .below .straight + w .below .diagonal < 2 ^ 24
-      small-length = omega (arith, wait .0 .short, one-cell ready on-ground, standing .small)
+      pub short : Short (w .len)
+      short = omega (arith, wait .0 .short, one-cell ready on-ground, standing .small)
+
+      -- what the drop test asks
+      pub testable : {n : ℕ} → n ≡ sub y → (w .len .diagonal ≤ 2 ^ 24) × (0 < n) × (n ≤ 2 ^ 24)
+      testable e = (
+        omega (arith, short),
+        omega (arith, e, one-cell ready on-ground),
+        omega (arith, e, small-cells ready on-ground),
+      )
 
       pub few-dropped : s .progress .dropped + sub y ≤ 2 ^ 24
       few-dropped = omega (arith, cells, standing .all-cells, standing .small)
 
-      pub fits : Fits (sub y) end (s .progress) (s .top - 1) old
+      pub fits : Fits (sub y) (w .len) end (s .progress) (s .top - 1) old
       fits = record {
         room = omega (arith, cells, few, standing .all-cells, standing .few-paths);
         within = standing .within;
+        short = short;
         few-visited = omega (arith, cells, standing .all-cells, standing .small, one-cell ready on-ground);
         few-paths = omega (
           arith,
@@ -111,16 +116,16 @@ module _ {rows cols : ℕ} {codes outlets subaccumulations : List ℕ}
           )
 
       module _ (dropping : Bool) {n : ℕ} (is-n : n ≡ sub y) {b : Bool}
-          (tests : b ≡ (dropping && isBelow (farthest squareCells (w .below) n) (s .progress))) where
+          (tests : b ≡ (dropping && isBelow (farthest squareCells (w .len) (n - 1)) (s .progress))) where
         abbrev state : State squares
         state = stateOf (s .progress) old end
 
-        test : b ≡ drops squares (tracingRule squares dropping) (state .starts) (w .below) E (sub y)
-        test = tests ∙ drops-by dropping (s .progress) old end (w .below) E n
-            ∙ ap (drops squares (tracingRule squares dropping) (state .starts) (w .below) E) is-n
+        test : b ≡ dropsAt dropping (state .starts) (w .len) (sub y)
+        test = tests ∙ drops-by dropping (s .progress) old end (w .len) n
+            ∙ ap (dropsAt dropping (state .starts) (w .len)) is-n
 
         first-taken : drain g outlets dropping (pending old (s .top)) state
-            ≡ drain g outlets dropping rest (taken g outlets dropping y (w .below) state)
+            ≡ drain g outlets dropping rest (taken g outlets dropping y (w .len) state)
         unfolding drain
         first-taken = ap (λ ws. drain g outlets dropping ws state) opened
 
@@ -140,38 +145,26 @@ module _ {rows cols : ℕ} {codes outlets subaccumulations : List ℕ}
             within = standing .within;
           };
           drains = sym (first-taken ∙ ap (drain g outlets dropping rest)
-              (taken-drops g outlets dropping y (w .below) state (sym test ∙ e)
+              (taken-drops g outlets dropping y (w .len) state (sym test ∙ e)
               ∙ ap (dropCells squares state) (sym is-n)));
           fewer = omega (arith, cells, one-cell ready on-ground);
           beyond = λ i h. refl;
         })
 
         -- it is entered
-        pub turn-entered : b ≡ false → {own : Length} → own ≡ plusStep (w .below) (stepBy (leadOf (getD codes y 0)))
-            → {r : Stack} {new : List ℕ} → Entered g outlets y own end (s .progress) (s .top - 1) old r new
-            → length new ≡ length old → Turned g outlets dropping end s old r new
-        unfolding leadOf
-        turn-entered e {own} is-own {r} {new} into same = record {
+        pub turn-entered : b ≡ false → {r : Stack} {new : List ℕ}
+            → Entered g outlets y (w .len) end (s .progress) (s .top - 1) old r new → length new ≡ length old
+            → Turned g outlets dropping end s old r new
+        turn-entered e {r} {new} into same = record {
           standing = stands ready on-ground into (wait .1)
               (omega (arith, cells, standing .all-cells)) (standing .few-paths) (standing .small)
-              (omega (arith, same, standing .within))
-              (omega (
-                arith,
-                ap (λ (l : Length). l .straight + l .diagonal) is-own,
-                one-step (w .below) (stepBy (leadOf (getD codes y 0))),
-                wait .0 .short,
-              ));
+              (omega (arith, same, standing .within)) (wait .0 .short);
           drains = drained ready on-ground into dropping
               ∙ sym (first-taken ∙ ap (drain g outlets dropping rest)
-              (taken-enters g outlets dropping y (w .below) state (sym test ∙ e)
-              ∙ ap (λ (l : Length). enter squares (tracingRule squares dropping) g outlets y l state) (sym own-is)));
+              (taken-enters g outlets dropping y (w .len) state (sym test ∙ e)));
           fewer = omega (arith, cells, cells-left ready on-ground into);
           beyond = into .beyond;
         }
-          where
-            own-is : own ≡ ownLength g y (w .below)
-            own-is = is-own ∙ ap (λ (k : ℕ). plusStep (w .below) (stepBy (leadOf k)))
-                (sym (code-inside g y (digits-lt (wait .0 .row-in) (wait .0 .col-in))))
 
   -- ---- the whole search
 
@@ -179,10 +172,15 @@ module _ {rows cols : ℕ} {codes outlets subaccumulations : List ℕ}
     abbrev o : ℕ
     o = row * cols + col
 
-    pub outlet-fits : {end : ℕ} → end ≡ 3 * sub o → {p : Progress} → p ≡ begun → {old : List ℕ} → end ≤ length old
-        → Fits (sub o) end p 0 old
-    outlet-fits is-end is-p h = rw is-p
-        (record { room = omega arith; within = h; few-visited = omega arith; few-paths = omega arith })
+    pub outlet-fits : {end : ℕ} → end ≡ 3 * sub o → {p : Progress} → p ≡ begun → {len : Length} → len ≡ counts 0 0
+        → {old : List ℕ} → end ≤ length old → Fits (sub o) len end p 0 old
+    outlet-fits is-end is-p is-len h = rw (is-p, is-len) (record {
+      room = omega arith;
+      within = h;
+      short = omega arith;
+      few-visited = omega arith;
+      few-paths = omega arith;
+    })
 
     module _ {end : ℕ} (is-end : end ≡ 3 * sub o) {p : Progress} (is-p : p ≡ begun)
         {len : Length} (is-len : len ≡ counts 0 0) {old : List ℕ} {r : Stack} {new : List ℕ}

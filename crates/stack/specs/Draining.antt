@@ -8,18 +8,18 @@ use lib.ListN.{length, getD}
 use lib.Dec.{eqb}
 use Rattle.lengths.specs.declared.Length.{Length}
 use Rattle.lists.specs.Lists.{Every}
-use Rattle.ground.specs.Compass.{E, dirs, squares}
+use Rattle.ground.specs.Compass.{dirs, squares}
 use Rattle.ground.specs.Grid.{Grid, gridOf, ground}
 use Rattle.ground.specs.Accumulation.{subaccumulation}
 use Rattle.search.specs.Tracing.{numbersEach}
-use Rattle.search.specs.Search.{State, meetIf, tracingRule, drops, dropCells}
+use Rattle.search.specs.Search.{State, meetIf, tracingRule, dropCells}
 use Rattle.search.specs.Neighbours.{enter}
 use Rattle.progress.specs.declared.Progress.{Progress}
 use Rattle.progress.specs.Starts.{startAt, startsOf, stateOf}
-use Rattle.upstream.specs.Ready.{ownLength, Searched}
+use Rattle.upstream.specs.Ready.{dropsAt, Searched}
 use Rattle.stack.specs.declared.Pending.{Pending}
 use Rattle.stack.specs.declared.Stack.{Stack}
-use Rattle.stack.specs.Pending.{pending, inflowsAbove}
+use Rattle.stack.specs.Pending.{Short, pending, inflowsAbove}
 
 abbrev pub cellOf : Grid → Pending → ℕ
 cellOf g w = w .row * g .cols + w .col
@@ -30,12 +30,12 @@ module _ (g : Grid) (outlets : List ℕ) where
   cellsPending [] = 0
   cellsPending (w ∷ ws) = subaccumulation g outlets (cellOf g w) + cellsPending ws
 
-  -- a cell of ground waits; the length below it and all its cells fit
+  -- a cell of ground waits; its length and all its cells fit
   pub record Waits (end : ℕ) (w : Pending) : Type 0 where
     pub row-in : w .row < g .rows
     pub col-in : w .col < g .cols
     pub solid : ground g (cellOf g w) ≡ true
-    pub short : numbersEach * (w .below .straight + w .below .diagonal + subaccumulation g outlets (cellOf g w)) ≤ end
+    pub short : numbersEach * (w .len .straight + w .len .diagonal + subaccumulation g outlets (cellOf g w)) ≤ end
 
   -- all cells of the search are visited, dropped or pending
   pub record Standing (end : ℕ) (s : Stack) (work : List ℕ) : Type 0 where
@@ -47,19 +47,17 @@ module _ (g : Grid) (outlets : List ℕ) where
     pub within : end ≤ length work
 
   module _ (dropping : Bool) where
-    -- what the search does with a cell above this length: it drops or enters it. 01's limit is the same for any step,
-    -- so the test takes one of them
+    -- what the search does with a cell at its length: it drops or enters it
     unfoldable pub taken : ℕ → Length → State squares → State squares
-    taken y below st = elim (drops squares (tracingRule squares dropping) (st .starts) below E
-        (subaccumulation g outlets y)) [
-          | true ↦ dropCells squares st (subaccumulation g outlets y)
-          | false ↦ enter squares (tracingRule squares dropping) g outlets y (ownLength g y below) st
-        ]
+    taken y len st = elim (dropsAt dropping (st .starts) len (subaccumulation g outlets y)) [
+      | true ↦ dropCells squares st (subaccumulation g outlets y)
+      | false ↦ enter squares (tracingRule squares dropping) g outlets y len st
+    ]
 
     -- and with all pending cells, the first first
     unfoldable pub drain : List Pending → State squares → State squares
     drain [] st = st
-    drain (w ∷ ws) st = drain ws (taken (cellOf g w) (w .below) st)
+    drain (w ∷ ws) st = drain ws (taken (cellOf g w) (w .len) st)
 
     -- one was taken off: the rest of the search is the same
     pub record Turned (end : ℕ) (s : Stack) (old : List ℕ) (r : Stack) (new : List ℕ) : Type 0 where
@@ -86,10 +84,11 @@ module _ (g : Grid) (outlets : List ℕ) where
     pub pending-is : pending new (r .top) ≡ inflowsAbove g outlets x len dirs ++ pending old top
     pub beyond : (i : ℕ) → end ≤ i → getD new i 0 ≡ getD old i 0
 
--- there is room for so many cells more
-pub record Fits (cells end : ℕ) (p : Progress) (top : ℕ) (work : List ℕ) : Type 0 where
+-- there is room for so many cells more, from a length on
+pub record Fits (cells : ℕ) (len : Length) (end : ℕ) (p : Progress) (top : ℕ) (work : List ℕ) : Type 0 where
   pub room : numbersEach * (top + cells) + p .paths ≤ end
   pub within : end ≤ length work
+  pub short : Short len
   pub few-visited : p .visited < 2 ^ 24
   pub few-paths : p .paths < 2 ^ 24
 

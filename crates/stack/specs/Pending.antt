@@ -3,19 +3,23 @@
 use mathlib.Core.Path.{_≡_}
 use mathlib.Core.List.{List, [], _∷_, _++_}
 use mathlib.Core.Option.{Option, none, some}
-use Prim.Native.Nat.{ℕ, zero, suc, _+_, _*_, _/_, _%_, _≤_}
+use Prim.Native.Nat.{ℕ, zero, suc, _+_, _*_, _/_, _%_, _≤_, _<_, _^_}
 use lib.ListN.{length, getD}
 use Rattle.lengths.specs.declared.Length.{Length}
-use Rattle.lengths.specs.Rule.{counts}
-use Rattle.ground.specs.Compass.{Dir, dirs}
+use Rattle.lengths.specs.Rule.{counts, plusStep}
+use Rattle.ground.specs.Compass.{Dir, dirs, opposite, stepOf}
 use Rattle.ground.specs.Grid.{Grid, gridOf}
 use Rattle.search.specs.Tracing.{numbersEach}
 use Rattle.search.specs.Neighbours.{inflowIn}
 use Rattle.stack.specs.declared.Pending.{Pending}
 
--- a cell of this row and column waits above a length
+-- a length of fewer steps than the largest grid has cells: one step more fits
+abbrev pub Short : Length → Type 0
+Short len = len .straight + len .diagonal < 2 ^ 24
+
+-- a cell of this row and column waits at its length
 abbrev pub pendingWith : ℕ → ℕ → Length → Pending
-pendingWith row col below = record { row = row; col = col; below = below }
+pendingWith row col len = record { row = row; col = col; len = len }
 
 -- the pending cell above n others
 abbrev pub pendingAt : List ℕ → ℕ → Pending
@@ -29,17 +33,18 @@ pending work (suc n) = pendingAt work n ∷ pending work n
 
 -- the same by the cell's number
 abbrev pub pendingOf : ℕ → Length → ℕ → Pending
-pendingOf cols below y = pendingWith (y / cols) (y % cols) below
+pendingOf cols len y = pendingWith (y / cols) (y % cols) len
 
 -- it is put on, if there is one
 abbrev pub onTop : ℕ → Length → Option ℕ → List Pending → List Pending
-onTop cols below none ws = ws
-onTop cols below (some y) ws = pendingOf cols below y ∷ ws
+onTop cols len none ws = ws
+onTop cols len (some y) ws = pendingOf cols len y ∷ ws
 
--- what the search turns to from x in these directions, the first on top
+-- what the search turns to from x at this length in these directions, the first on top, each one step longer
 unfoldable pub inflowsAbove : Grid → List ℕ → ℕ → Length → List Dir → List Pending
 inflowsAbove g outlets x len [] = []
-inflowsAbove g outlets x len (d ∷ ds) = onTop (g .cols) len (inflowIn g outlets x d) (inflowsAbove g outlets x len ds)
+inflowsAbove g outlets x len (d ∷ ds) = onTop (g .cols) (plusStep len (stepOf (opposite d))) (inflowIn g outlets x d)
+    (inflowsAbove g outlets x len ds)
 
 -- in all directions, from a cell by its row and column
 abbrev pub allAbove : ℕ → ℕ → List ℕ → List ℕ → ℕ → ℕ → Length → List Pending

@@ -4,12 +4,12 @@ use lengths::Length;
 use lists::index_of;
 use lists::wide;
 use moves::Spot;
-use moves::step_of;
 use progress::Progress;
 use progress::begin;
 use progress::drop_cells;
 use progress::is_dropped;
 use progress::visit;
+use upstream::step_at;
 use upstream::tributary_from;
 ghost use mathlib.Core.Path.{_≡_};
 ghost use mathlib.Core.List.{[], _∷_};
@@ -18,17 +18,17 @@ ghost use lib.ListN.{length};
 ghost use Rattle.search.specs.Tracing.{numbersEach};
 ghost use Rattle.moves.specs.Lent.{OnCell};
 ghost use Rattle.upstream.specs.Ready.{Ready, OnGround, cellsAt};
-ghost use Rattle.stack.specs.Pending.{pendingAt, pendingWith, allAbove, PutOn};
+ghost use Rattle.stack.specs.Pending.{Short, pendingAt, pendingWith, allAbove, PutOn};
 ghost use Rattle.stack.specs.Draining.{Fits, CellEntered, StackStands, StackTurned, StackTraced};
 
 // How many numbers of the working space a pending cell takes, and how many are asked for each cell.
 pub const NUMBERS_EACH: usize = 3;
 
-// A cell that waits, and the length of the cell below it.
+// A cell that waits, and its length.
 pub struct Pending {
     pub row: usize,
     pub col: usize,
-    pub below: Length,
+    pub len: Length,
 }
 
 // How far the search has come, and how many cells are pending.
@@ -37,37 +37,38 @@ pub struct Stack {
     pub top: usize,
 }
 
-// The pending cell above n others. Its numbers are row × 4,096 + column, and the counts of the length below it.
+// The pending cell above n others. Its numbers are row × 4,096 + column, and the counts of its length.
 fn pending_at(work: &[u32], n: usize) -> Pending
     requires { ⌜ numbersEach * (n + 1) ≤ length (now work) ⌝ }
     ensures { λ r. ⌜ r ≡ pendingAt (now (work .entry)) n ⌝ }
 {
     let at = NUMBERS_EACH * n;
     let cell = index_of(work[at]);
-    let below = Length {
+    let len = Length {
         straight: work[at + 1],
         diagonal: work[at + 2],
     };
     Pending {
         row: cell / 4096,
         col: cell % 4096,
-        below,
+        len,
     }
 }
 
 // A cell is put on n others.
-fn put(work: &mut [u32], n: usize, row: usize, col: usize, below: Length) -> usize
+fn put(work: &mut [u32], n: usize, row: usize, col: usize, len: Length) -> usize
     requires { ⌜ (numbersEach * (n + 1) ≤ length (now work)) × (row < 4096) × (col < 4096) ⌝ }
-    ensures { λ r. ⌜ PutOn (pendingWith row col below ∷ []) n (now (work .entry)) r (now (work .exit)) ⌝ }
+    ensures { λ r. ⌜ PutOn (pendingWith row col len ∷ []) n (now (work .entry)) r (now (work .exit)) ⌝ }
 {
     let at = NUMBERS_EACH * n;
     work[at] = (row * 4096 + col) as u32;
-    work[at + 1] = below.straight;
-    work[at + 2] = below.diagonal;
+    work[at + 1] = len.straight;
+    work[at + 2] = len.diagonal;
     n + 1
 }
 
-// What flows into a cell at this length is put on, the last neighbour first, so that the first comes on top.
+// What flows into a cell at this length is put on, each one step longer, the last neighbour first, so that the first
+// comes on top.
 fn put_inflows(
     rows: usize,
     cols: usize,
@@ -80,8 +81,8 @@ fn put_inflows(
     work: &mut [u32],
 ) -> usize
     requires { ⌜ OnCell rows cols (now codes) row col ⌝ }
-    requires { ⌜ numbersEach * (top + length (allAbove rows cols (now codes) (now outlets) row col len))
-        ≤ length (now work) ⌝ }
+    requires { ⌜ (numbersEach * (top + length (allAbove rows cols (now codes) (now outlets) row col len))
+        ≤ length (now work)) × Short len ⌝ }
     ensures { λ r. ⌜ PutOn (allAbove rows cols (now (codes .entry)) (now (outlets .entry)) row col len) top
         (now (work .entry)) r (now (work .exit)) ⌝ }
 {
@@ -98,7 +99,8 @@ fn put_inflows(
             col,
             left,
         ) {
-            at = put(work, at, r, c, len);
+            let own = len.plus(step_at(left));
+            at = put(work, at, r, c, own);
         }
     }
     at
@@ -123,7 +125,7 @@ fn climb(
     requires { ⌜ Ready rows cols (now codes) (now outlets) (now subaccumulation) ⌝ }
     requires { ⌜ OnGround rows cols (now codes) row col ⌝ }
     requires { ⌜ (n ≡ cellsAt rows cols (now codes) (now outlets) row col)
-        × (numbersEach * (top + n) ≤ length (now work)) ⌝ }
+        × (numbersEach * (top + n) ≤ length (now work)) × Short len ⌝ }
     ensures { λ r. ⌜ PutOn (allAbove rows cols (now (codes .entry)) (now (outlets .entry)) row col len) top
         (now (work .entry)) r (now (work .exit)) ⌝ }
 {
@@ -157,7 +159,7 @@ fn enter_cell(
 ) -> Stack
     requires { ⌜ Ready rows cols (now codes) (now outlets) (now subaccumulation) ⌝ }
     requires { ⌜ OnGround rows cols (now codes) row col ⌝ }
-    requires { ⌜ Fits (cellsAt rows cols (now codes) (now outlets) row col) end p top (now work) ⌝ }
+    requires { ⌜ Fits (cellsAt rows cols (now codes) (now outlets) row col) len end p top (now work) ⌝ }
     ensures { λ r. ⌜ CellEntered rows cols (now (codes .entry)) (now (outlets .entry)) row col len end p top
         (now (work .entry)) r (now (work .exit)) ⌝ }
 {
@@ -201,7 +203,7 @@ fn enter_outlet(
 ) -> Stack
     requires { ⌜ Ready rows cols (now codes) (now outlets) (now subaccumulation) ⌝ }
     requires { ⌜ OnGround rows cols (now codes) row col ⌝ }
-    requires { ⌜ Fits (cellsAt rows cols (now codes) (now outlets) row col) end p top (now work) ⌝ }
+    requires { ⌜ Fits (cellsAt rows cols (now codes) (now outlets) row col) len end p top (now work) ⌝ }
     ensures { λ r. ⌜ CellEntered rows cols (now (codes .entry)) (now (outlets .entry)) row col len end p top
         (now (work .entry)) r (now (work .exit)) ⌝ }
 {
@@ -237,16 +239,14 @@ fn turn(
     let w = pending_at(work, top);
     let row = w.row;
     let col = w.col;
-    let below = w.below;
-    let at = row * cols + col;
-    let n = subaccumulation[at];
-    if is_dropped(dropping, below, n, p) {
+    let len = w.len;
+    let n = subaccumulation[row * cols + col];
+    if is_dropped(dropping, len, n, p) {
         return Stack {
             progress: drop_cells(p, n),
             top,
         };
     }
-    let len = below.plus(step_of(codes[at]));
     enter_cell(
         rows,
         cols,

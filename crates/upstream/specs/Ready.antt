@@ -1,19 +1,19 @@
 -- What an engine takes for granted: sizes, agreement of some accumulation, and the subaccumulation in a lent grid.
 -- Assumes nothing.
 use mathlib.Core.Path.{_≡_}
-use mathlib.Core.Bool.{Bool, true}
+use mathlib.Core.Bool.{Bool, true, _&&_}
 use mathlib.Core.List.{List}
-use Prim.Native.Nat.{ℕ, _+_, _*_, _≤_, _<_}
+use Prim.Native.Nat.{ℕ, _+_, _-_, _*_, _≤_, _<_}
 use lib.ListN.{length, getD}
 use Rattle.lengths.specs.declared.Length.{Length}
-use Rattle.lengths.specs.Rule.{plusStep}
+use Rattle.lengths.specs.Lengths.{farthest}
 use Rattle.ground.specs.Compass.{squares}
-use Rattle.ground.specs.Grid.{Grid, gridOf, ground, flow}
+use Rattle.ground.specs.Grid.{Grid, gridOf, ground}
+use Rattle.ground.specs.Walk.{At}
 use Rattle.ground.specs.Accumulation.{agrees, subaccumulation}
 use Rattle.ground.specs.Forest.{forest}
 use Rattle.moves.specs.Lent.{LentGrid}
-use Rattle.moves.specs.Moves.{leadBy, stepBy}
-use Rattle.search.specs.Search.{State, tracingRule, searchFrom}
+use Rattle.search.specs.Search.{State, belowGreatest, tracingRule, searchFrom}
 use Rattle.progress.specs.declared.Progress.{Progress}
 use Rattle.progress.specs.Starts.{stateOf}
 
@@ -29,9 +29,9 @@ pub record Ready (rows cols : ℕ) (codes outlets subaccumulations : List ℕ) :
 abbrev pub cellsAt : ℕ → ℕ → List ℕ → List ℕ → ℕ → ℕ → ℕ
 cellsAt rows cols codes outlets row col = subaccumulation (gridOf rows cols codes) outlets (row * cols + col)
 
--- the length of a cell above one at this length, by its own direction
-abbrev pub ownLength : Grid → ℕ → Length → Length
-ownLength g y below = plusStep below (stepBy (leadBy (flow g y)))
+-- the rule's test of a neighbour of n cells, by its own length: that of the cell it is entered from and the step
+abbrev pub dropsAt : Bool → List (At Length) → Length → ℕ → Bool
+dropsAt dropping gs own n = dropping && belowGreatest squares gs (farthest squares own (n - 1))
 
 -- a cell of ground, by its row and column
 pub record OnGround (rows cols : ℕ) (codes : List ℕ) (row col : ℕ) : Type 0 where

@@ -7,7 +7,7 @@
 //! * `compare desk <program>` compares the desk program's output.
 //!
 //! The status is 0 if nothing differs, 1 if something does or if a number or a
-//! sight of ponds never came, 2 if the program was not asked rightly.
+//! sight never came, 2 if the program was not asked rightly.
 
 mod calls;
 mod desk_trials;

@@ -1,8 +1,12 @@
-//! How many calls of each number each entry saw, and what was seen of ponds.
+//! How many calls of each number each entry saw, and what was seen of ponds and of drops.
 
+mod searches;
 mod sights;
 
 use sights::Sights;
+
+pub use searches::Searches;
+pub use sights::Accepted;
 
 const NUMBERS: usize = 25;
 

@@ -1,5 +1,6 @@
 //! Small grids and single calls with their answers spelled out by hand.
 
+mod limits;
 mod pond_calls;
 mod ponds;
 mod single_calls;
@@ -8,13 +9,14 @@ mod trap;
 
 use crate::calls::{Ask, Comparison, Engine, Rooms};
 use crate::table_trials::every_pair;
+use limits::LIMITS;
 use ponds::PONDS;
 use single_calls::{refusals, sheets, whole_flow_lengths, whole_subaccumulation};
 use table::TRAPS;
 use trap::Trap;
 
 pub fn run(comparison: &mut Comparison) {
-    for trap in TRAPS.iter().chain(&PONDS) {
+    for trap in TRAPS.iter().chain(&PONDS).chain(&LIMITS) {
         comparison.about(format!("trap: {}", trap.name));
         tracing(comparison, trap);
         drawing(comparison, trap);

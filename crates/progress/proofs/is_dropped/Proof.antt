@@ -1,6 +1,8 @@
 -- `progress::is_dropped` meets its contract: each return is one case of the drop test.
 -- Assumes nothing.
 use mathlib.Core.Path.{_≡_, sym, ap, ap₂, _∙_}
+use Prim.Native.Nat.{_-_}
+use native.Mathlib.Omega.{arith}
 use mathlib.Core.Bool.{_&&_, and-false}
 use borrow.Author.Tests.{not-true, not-false}
 use Rattle.lengths.specs.declared.Length.{Length}
@@ -16,7 +18,7 @@ use Rattle.progress.proofs.is_dropped.Tie as tie
 
 -- the limit
 abbrev limit : tie.Start → Length
-limit s = farthest squareCells (s .args .len) (s .args .n)
+limit s = farthest squareCells (s .args .len) (s .args .n - 1)
 
 -- the function's start, seen from the comparison
 abbrev start : tie.After-compare → tie.Start
@@ -41,8 +43,11 @@ returns-2 c =
     let s = c .before .before .before in
     rw (none-met (limit s) (s .args .p) (c .if2 .taken)) (sym (and-false (s .args .dropping)))
 
+sub-farthest : tie.Need-sub-farthest
+sub-farthest c = search needs
+
 farthest-requires : tie.Need-farthest-requires
-farthest-requires c κs = c .before .before .before .before .pre
+farthest-requires c κs = let p = c .before .before .before .before .pre in (p .0, omega (arith, p .2))
 
 compare-requires : tie.Need-compare-requires
 compare-requires c κs = search needs
@@ -71,6 +76,7 @@ is-dropped-spec =
     (tie.spec
     returns
     returns-2
+    sub-farthest
     farthest-requires
     compare-requires
     enum-told

@@ -9,7 +9,7 @@ use borrow.Fn.PlainCycle.{Measures, is, falls, and}
 use borrow.Author.Needs.{needs}
 use Rattle.recursion.specs.Tracing.{InflowsReady, InflowsTraced}
 use Rattle.recursion.proofs.Cell.{cells-read, has-place, has-room, inflows-ready, cell-traced}
-use Rattle.recursion.proofs.Inflows.{inflows-done, fewer, small-cells, small-len, cells-lent}
+use Rattle.recursion.proofs.Inflows.{inflows-done, fewer, small-cells, small-len, cells-lent, testable}
 use Rattle.recursion.proofs.Inflows.{drop-ready, drop-traced, cell-ready, rest-ready, rest-traced}
 use Rattle.recursion.proofs.trace_cell.Reads as trace-cell
 use Rattle.recursion.proofs.trace_cell.Kinds as trace-cell-kinds
@@ -56,14 +56,14 @@ module _ (t : ℕ) where
   in-inflows = (
     next-turn-reads.Asked,
     next-turn-reads.Learnt,
+    plus-reads.Asked,
+    plus-reads.Learnt,
     is-dropped-reads.Asked,
     is-dropped-reads.Learnt,
     drop-cells-reads.Asked,
     drop-cells-reads.Learnt,
     trace-inflows-below,
     trace-inflows.Post,
-    plus-reads.Asked,
-    plus-reads.Learnt,
     trace-cell-below,
     trace-cell.Post,
   )
@@ -111,18 +111,25 @@ module _ (t : ℕ) where
   add-left : trace-inflows-lts.Need-add-left in-inflows trace-inflows-at trace-inflows.Post
   add-left c = let n = c .before .before .before in omega (arith, n .next-turn .ensures .last)
 
+  plus-requires : trace-inflows-lts.Need-plus-requires in-inflows trace-inflows-at trace-inflows.Post
+  plus-requires c κs =
+      let e = c .before in
+      let n = e .before .before in
+      let s = n .before .before .before .before in
+      let small = small-len (s .pre .1 .0) (s .args .dropping) (s .pre .1 .1) (n .next-turn .ensures) (e .if1 .left) in
+      (omega (arith, small), omega (arith, small))
+
   is-dropped-requires : trace-inflows-lts.Need-is-dropped-requires in-inflows trace-inflows-at trace-inflows.Post
   is-dropped-requires c κs =
-      let n = c .before .before .before in
+      let e = c .before .before in
+      let n = e .before .before in
       let s = n .before .before .before .before in
-      let h = c .before .if1 .left in (
-        omega (arith, small-len (s .pre .1 .0) (s .args .dropping) (s .pre .1 .1) (n .next-turn .ensures) h),
-        omega (arith, small-cells (s .pre .1 .0) (s .args .dropping) (s .pre .1 .1) (n .next-turn .ensures) h),
-      )
+      testable (s .pre .1 .0) (s .args .dropping) (s .pre .1 .1) (n .next-turn .ensures) (e .if1 .left)
+      (c .plus .ensures)
 
   drop-cells-requires : trace-inflows-lts.Need-drop-cells-requires in-inflows trace-inflows-at trace-inflows.Post
   drop-cells-requires c κs =
-      let e = c .before .before .before in
+      let e = c .before .before .before .before in
       let n = e .before .before in
       let s = n .before .before .before .before in
       omega (
@@ -134,7 +141,8 @@ module _ (t : ℕ) where
   dropped-requires : trace-inflows-lts.Need-trace-inflows-requires in-inflows trace-inflows-at trace-inflows.Post
   dropped-requires c κs =
       let d = c .before in
-      let e = d .before .before .before .before in
+      let p = d .before .before .before in
+      let e = p .before .before in
       let n = e .before .before in
       let s = n .before .before .before .before in
       let a = s .args in (
@@ -144,40 +152,32 @@ module _ (t : ℕ) where
           subst (λ q. InflowsReady (a .rows) (a .cols) (a .codes .now) (a .outlets .now) (a .row) (a .col)
               (a .len) (n .next-turn .result .k + 1) q (a .found .now)) (sym (d .drop-cells .ensures))
               (drop-ready (s .pre .1 .0) (a .dropping) (s .pre .1 .1) (n .next-turn .ensures) (e .if1 .left)
-              (d .before .before .is-dropped .ensures)),
+              (p .plus .ensures) (d .before .before .is-dropped .ensures)),
         ),
       )
 
   dropped-returns : trace-inflows-lts.Need-returns-2 in-inflows trace-inflows-at trace-inflows.Post
   dropped-returns c =
       let d = c .before .before in
-      let e = d .before .before .before .before in
+      let p = d .before .before .before in
+      let e = p .before .before in
       let n = e .before .before in
       let s = n .before .before .before .before in
       let a = s .args in
       let i = c .trace-inflows in
-      drop-traced (s .pre .1 .0) (a .dropping) (s .pre .1 .1) (n .next-turn .ensures) (e .if1 .left)
-      (d .before .before .is-dropped .ensures) (d .before .if2 .taken)
-      (i .result)
+      drop-traced (s .pre .1 .0) (a .dropping) (s .pre .1 .1) (n .next-turn .ensures) (e .if1 .left) (p .plus .ensures)
+      (d .before .before .is-dropped .ensures) (d .before .if2 .taken) (i .result)
       (i .last .1 .1 .1 .1 .1 .1 .1 .1 .1 .1 .1 .0)
       (subst (λ q. InflowsTraced (a .rows) (a .cols) (a .codes .now) (a .outlets .now) (a .dropping) (a .row) (a .col)
       (a .len) (n .next-turn .result .k + 1) q (a .found .now) (i .result)
       (i .last .1 .1 .1 .1 .1 .1 .1 .1 .1 .1 .1 .0))
       (d .drop-cells .ensures) (i .ensures))
 
-  plus-requires : trace-inflows-lts.Need-plus-requires in-inflows trace-inflows-at trace-inflows.Post
-  plus-requires c κs =
-      let e = c .before .before .before in
-      let n = e .before .before in
-      let s = n .before .before .before .before in
-      let small = small-len (s .pre .1 .0) (s .args .dropping) (s .pre .1 .1) (n .next-turn .ensures) (e .if1 .left) in
-      (omega (arith, small), omega (arith, small))
-
   traced-requires : trace-inflows-lts.Need-trace-cell-requires in-inflows trace-inflows-at trace-inflows.Post
   traced-requires c κs =
-      let p = c .before in
-      let d = p .before .before in
-      let e = d .before .before in
+      let d = c .before in
+      let p = d .before .before in
+      let e = p .before .before in
       let n = e .before .before in
       let s = n .before .before .before .before in
       let a = s .args in
@@ -192,18 +192,17 @@ module _ (t : ℕ) where
         ),
         (
           ready,
-          cell-ready ready (a .dropping) here (n .next-turn .ensures) (e .if1 .left) (d .is-dropped .ensures)
-              (p .before .if2 .left)
-              (p .plus .ensures),
+          cell-ready ready (a .dropping) here (n .next-turn .ensures) (e .if1 .left) (p .plus .ensures)
+              (d .before .is-dropped .ensures) (d .if2 .left),
         ),
       )
 
   rest-requires : trace-inflows-lts.Need-trace-inflows-requires-2 in-inflows trace-inflows-at trace-inflows.Post
   rest-requires c κs =
       let q = c .before .trace-cell in
-      let p = c .before .before .before in
-      let d = p .before .before in
-      let e = d .before .before in
+      let d = c .before .before .before in
+      let p = d .before .before in
+      let e = p .before .before in
       let n = e .before .before in
       let s = n .before .before .before .before in
       let a = s .args in (
@@ -211,8 +210,7 @@ module _ (t : ℕ) where
         (
           s .pre .1 .0,
           rest-ready (s .pre .1 .0) (a .dropping) (s .pre .1 .1) (n .next-turn .ensures) (e .if1 .left)
-              (d .is-dropped .ensures) (p .before .if2 .left)
-              (p .plus .ensures) (q .ensures),
+              (p .plus .ensures) (d .before .is-dropped .ensures) (d .if2 .left) (q .ensures),
         ),
       )
 
@@ -220,15 +218,14 @@ module _ (t : ℕ) where
   rest-returns c =
       let i = c .trace-inflows2 in
       let q = c .before .before .trace-cell in
-      let p = c .before .before .before .before in
-      let d = p .before .before in
-      let e = d .before .before in
+      let d = c .before .before .before .before in
+      let p = d .before .before in
+      let e = p .before .before in
       let n = e .before .before in
       let s = n .before .before .before .before in
       let a = s .args in
-      rest-traced (s .pre .1 .0) (a .dropping) (s .pre .1 .1) (n .next-turn .ensures) (e .if1 .left)
-      (d .is-dropped .ensures) (p .before .if2 .left)
-      (p .plus .ensures) (q .ensures) (i .result)
+      rest-traced (s .pre .1 .0) (a .dropping) (s .pre .1 .1) (n .next-turn .ensures) (e .if1 .left) (p .plus .ensures)
+      (d .before .is-dropped .ensures) (d .if2 .left) (q .ensures) (i .result)
       (i .last .1 .1 .1 .1 .1 .1 .1 .1 .1 .1 .1 .0) (i .ensures)
 
 pub +trace-cell+trace-inflows-spec : {M : Type 1} → statement M
@@ -236,7 +233,5 @@ pub +trace-cell+trace-inflows-spec : {M : Type 1} → statement M
     (λ t. trace-cell-lts.spec (in-cell t) (trace-cell-at t) trace-cell.Post (cell-visit-requires t)
     (cell-inflows-requires t) (cell-returns t))
     λ t. trace-inflows-lts.spec (in-inflows t) (trace-inflows-at t) trace-inflows.Post (inflows-next-requires t)
-    (inflows-returns t) (add-left t) (is-dropped-requires t) (drop-cells-requires t)
-    (dropped-requires t)
-    (dropped-returns t) (plus-requires t) (traced-requires t) (rest-requires t)
-    (rest-returns t)
+    (inflows-returns t) (add-left t) (plus-requires t) (is-dropped-requires t) (drop-cells-requires t)
+    (dropped-requires t) (dropped-returns t) (traced-requires t) (rest-requires t) (rest-returns t)

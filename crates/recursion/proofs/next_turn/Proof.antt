@@ -42,12 +42,8 @@ turn-at-requires c κs =
     let f = c .before .before .before .tributary-from .ensures in
     let g = c .before .r .given in
     let h = digits-lt (f .row-in (g .0 .0) (g .0 .1 .0) (g .1)) (f .col-in (g .0 .0) (g .0 .1 .0) (g .1)) in
-    let p = s .pre in (
-      omega (arith, h, p .on .grid .has-codes),
-      omega (arith, h, p .has-subaccumulations),
-      omega
-          (arith, h, size (p .on .grid .sides)),
-    )
+    let p = s .pre in
+    (omega (arith, h, p .has-subaccumulations), omega (arith, h, size (p .on .grid .sides)))
 
 returns : tie.Need-returns Inv-loop μ-loop
 returns c =

@@ -45,7 +45,10 @@ put-inflows-requires : tie.Need-put-inflows-requires
 put-inflows-requires c κs =
     let s = start (c .before .before) in (
       on-cell (s .pre .0) (s .pre .1 .0),
-      omega (arith, few-above (s .pre .0) (s .pre .1 .0) (s .args .len), s .pre .1 .1 .0, s .pre .1 .1 .1),
+      (
+        omega (arith, few-above (s .pre .0) (s .pre .1 .0) (s .args .len), s .pre .1 .1 .0, s .pre .1 .1 .1),
+        s .pre .1 .1 .2,
+      ),
     )
 
 same-length : tie.Need-same-length
@@ -74,12 +77,15 @@ put-inflows-requires-2 : tie.Need-put-inflows-requires-2
 put-inflows-requires-2 c κs =
     let s = start-sum (c .before) in (
       on-cell (s .pre .0) (s .pre .1 .0),
-      omega (
-        arith,
-        ap length (alike (c .before)),
-        few-above (s .pre .0) (s .pre .1 .0) (s .args .len),
-        s .pre .1 .1 .0,
-        s .pre .1 .1 .1,
+      (
+        omega (
+          arith,
+          ap length (alike (c .before)),
+          few-above (s .pre .0) (s .pre .1 .0) (s .args .len),
+          s .pre .1 .1 .0,
+          s .pre .1 .1 .1,
+        ),
+        s .pre .1 .1 .2,
       ),
     )
 
@@ -98,7 +104,10 @@ put-inflows-requires-3 : tie.Need-put-inflows-requires-3
 put-inflows-requires-3 c κs =
     let s = start (c .before .before .before .before .before .before .before) in (
       on-cell (s .pre .0) (s .pre .1 .0),
-      omega (arith, few-above (s .pre .0) (s .pre .1 .0) (s .args .len), s .pre .1 .1 .0, s .pre .1 .1 .1),
+      (
+        omega (arith, few-above (s .pre .0) (s .pre .1 .0) (s .args .len), s .pre .1 .1 .0, s .pre .1 .1 .1),
+        s .pre .1 .1 .2,
+      ),
     )
 
 same-length-3 : tie.Need-same-length-3

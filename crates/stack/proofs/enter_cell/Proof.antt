@@ -43,6 +43,7 @@ climb-requires c κs =
             s .pre .1 .1 .within,
             c .before .before .before .visit .kept .0,
           ),
+          s .pre .1 .1 .short,
         ),
       ),
     )

@@ -32,12 +32,15 @@ put-inflows-requires : tie.Need-put-inflows-requires
 put-inflows-requires c κs =
     let s = c .before .before .before .before .before .before .before .before .before .before in (
       on-cell (s .pre .0) (s .pre .1 .0),
-      omega (
-        arith,
-        few-above (s .pre .0) (s .pre .1 .0) (s .args .len),
-        s .pre .1 .1 .room,
-        s .pre .1 .1 .within,
-        c .before .before .before .visit .kept .0,
+      (
+        omega (
+          arith,
+          few-above (s .pre .0) (s .pre .1 .0) (s .args .len),
+          s .pre .1 .1 .room,
+          s .pre .1 .1 .within,
+          c .before .before .before .visit .kept .0,
+        ),
+        s .pre .1 .1 .short,
       ),
     )
 

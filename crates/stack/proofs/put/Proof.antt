@@ -50,7 +50,7 @@ same-length : tie.Need-same-length
 same-length c = search needs
 
 returns : tie.Need-returns
-returns c = let a = c .args in put-one (a .work .now) (a .n) (a .row) (a .col) (a .below) (c .pre .0) (c .pre .2)
+returns c = let a = c .args in put-one (a .work .now) (a .n) (a .row) (a .col) (a .len) (c .pre .0) (c .pre .2)
 
 pub put-spec : {M : Type 1} → statement M
 put-spec =

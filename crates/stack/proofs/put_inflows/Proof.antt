@@ -1,10 +1,11 @@
 -- `stack::put_inflows` meets its contract: what lies in the directions from `left` on is put on.
 -- Assumes nothing.
-use mathlib.Core.Path.{_≡_, refl, _∙_, subst}
+use mathlib.Core.Path.{_≡_, refl, ap, _∙_, subst}
 use Prim.Native.Nat.{ℕ, _+_, _*_, _≤_}
 use native.Mathlib.Omega.{arith}
 use lib.ListN.{length, drop}
 use borrow.Author.Needs.{needs}
+use Rattle.lengths.specs.Rule.{plusStep}
 use Rattle.ground.specs.Compass.{dirs}
 use Rattle.ground.specs.Grid.{gridOf}
 use Rattle.upstream.proofs.Turning.{nothing-there, found-there}
@@ -35,16 +36,24 @@ tributary-from-requires c κs = c .before .before .before .before .before .pre .
 enum-known-r : tie.Need-enum-known-r Inv-loop μ-loop
 enum-known-r c = search needs
 
+step-at-requires : tie.Need-step-at-requires Inv-loop μ-loop
+step-at-requires c κs = search needs
+
+plus-requires : tie.Need-plus-requires Inv-loop μ-loop
+plus-requires c κs =
+    let short = c .before .before .before .before .before .before .before .before .before .before .pre .1 .1 in
+    (omega (arith, short), omega (arith, short))
+
 put-requires : tie.Need-put-requires Inv-loop μ-loop
 put-requires c κs =
-    let s = c .before .before .before .before .before .before .before .before .before .before in
+    let s = c .before .before .before .before .before .before .before .before .before .before .before .before in
     let a = s .args in
-    let l = c .before .before .before .before .before .before .loop in
-    let f = c .before .before .before .before .tributary-from .ensures in
-    let t = c .before .before .r .given in (
+    let l = c .before .before .before .before .before .before .before .before .loop in
+    let f = c .before .before .before .before .before .before .tributary-from .ensures in
+    let t = c .before .before .before .before .r .given in (
       room-left (gridOf (a .rows) (a .cols) (a .codes .now)) (a .outlets .now) (a .row * a .cols + a .col) (a .len)
           (l .left) (omega arith) (l .inv .0) (l .inv .2) (t .0 .0) (t .0 .1 .0)
-          (found-there f (t .1)) (length (l .work)) (omega (arith, s .pre .1, l .inv .1)),
+          (found-there f (t .1)) (length (l .work)) (omega (arith, s .pre .1 .0, l .inv .1)),
       omega (arith, f .row-in (t .0 .0) (t .0 .1 .0) (t .1), s .pre .0 .grid .sides .rows-small),
       omega (arith, f .col-in (t .0 .0) (t .0 .1 .0) (t .1), s .pre .0 .grid .sides .cols-small),
     )
@@ -54,17 +63,18 @@ loop-less c = search needs
 
 loop-again : tie.Need-loop-again Inv-loop μ-loop
 loop-again c =
-    let a = c .before .before .before .before .before .before .before .before .before .before .before .before .before
-    .args in
-    let l = c .before .before .before .before .before .before .before .before .before .loop in
-    let f = c .before .before .before .before .before .before .before .tributary-from .ensures in
-    let t = c .before .before .before .before .before .r .given in
+    let i = c .before .before .before .before .before .before .before .before .before .before in
+    let a = i .before .before .before .before .before .args in
+    let l = i .before .loop in
+    let f = c .before .before .before .before .before .before .before .before .before .tributary-from .ensures in
+    let t = c .before .before .before .before .before .before .before .r .given in
     let p = c .before .before .put in (
       omega arith,
       p .kept .0 ∙ l .inv .1,
       joined (gridOf (a .rows) (a .cols) (a .codes .now)) (a .outlets .now) (a .row * a .cols + a .col) (a .len)
-          (l .left) (omega arith) (l .inv .0) (l .inv .2) (t .0 .0) (t .0 .1 .0)
+          (l .left) (omega (arith, i .loop-test .taken)) (l .inv .0) (l .inv .2) (t .0 .0) (t .0 .1 .0)
           (found-there f (t .1)) (f .col-in (t .0 .0) (t .0 .1 .0) (t .1))
+          (c .before .before .before .before .plus .ensures ∙ ap (plusStep (a .len)) (c .before .before .before .before .before .step-at .ensures))
           (p .ensures),
     )
 
@@ -107,6 +117,8 @@ put-inflows-spec =
     sub-left
     tributary-from-requires
     enum-known-r
+    step-at-requires
+    plus-requires
     put-requires
     loop-less
     loop-again

@@ -72,7 +72,7 @@ enter-outlet-requires c κs =
       (
         s .pre .1 .0,
         outlet-fits (s .pre .0) (s .pre .1 .0) (end-is i) (c .before .begin .ensures)
-            (omega (arith, end-is i, s .pre .1 .1)),
+            (c .before .before .none .ensures) (omega (arith, end-is i, s .pre .1 .1)),
       ),
     )
 

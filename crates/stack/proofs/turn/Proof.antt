@@ -1,11 +1,9 @@
 -- `stack::turn` meets its contract: the cell that is taken off is dropped or entered.
 -- Assumes nothing.
-use mathlib.Core.Path.{ap, _∙_}
 use native.Mathlib.Omega.{arith}
-use Rattle.lengths.specs.Rule.{plusStep}
 use Rattle.upstream.specs.Ready.{OnGround}
-use Rattle.stack.proofs.Climbing.{indexed, read, small-cells}
-use Rattle.stack.proofs.Turning.{pending-room, on-ground, small-length, few-dropped, fits, turn-dropped}
+use Rattle.stack.proofs.Climbing.{indexed, read}
+use Rattle.stack.proofs.Turning.{pending-room, on-ground, testable, few-dropped, fits, turn-dropped}
 use Rattle.stack.proofs.Turning.{turn-entered}
 use borrow.Author.Needs.{needs}
 use Rattle.stack.proofs.turn.Statement.{statement}
@@ -36,33 +34,23 @@ pending-at-requires c κs =
       s .pre .1 .1,
     )
 
-mul-at : tie.Need-mul-at
-mul-at c =
-    let d = c .before in
-    omega (arith, indexed (start d .pre .0) (ground-there d))
-
-add-at : tie.Need-add-at
-add-at c =
-    let d = c .before in
-    omega (arith, indexed (start d .pre .0) (ground-there d))
-
 mul-n : tie.Need-mul-n
-mul-n c =
-    let d = c .before in
-    omega (arith, indexed (start d .pre .0) (ground-there d))
+mul-n c = let d = c .before in omega (arith, indexed (start d .pre .0) (ground-there d))
+
+add-n : tie.Need-add-n
+add-n c = let d = c .before in omega (arith, indexed (start d .pre .0) (ground-there d))
+
+mul-n-2 : tie.Need-mul-n-2
+mul-n-2 c = let d = c .before in omega (arith, indexed (start d .pre .0) (ground-there d))
 
 shared-slice-read-n : tie.Need-shared-slice-read-n
-shared-slice-read-n c =
-    let d = c .before .before in
-    omega (arith, indexed (start d .pre .0) (ground-there d))
+shared-slice-read-n c = let d = c .before .before in omega (arith, indexed (start d .pre .0) (ground-there d))
 
 is-dropped-requires : tie.Need-is-dropped-requires
 is-dropped-requires c κs =
     let d = c .before .before in
     let s = start d in
-    let l = small-length (s .pre .0) (s .pre .1 .0) (s .pre .1 .1)
-    (d .pending-at .ensures) in
-    (omega arith, omega (arith, read (s .pre .0) (ground-there d), small-cells (s .pre .0) (ground-there d)))
+    testable (s .pre .0) (s .pre .1 .0) (s .pre .1 .1) (d .pending-at .ensures) (read (s .pre .0) (ground-there d))
 
 drop-cells-requires : tie.Need-drop-cells-requires
 drop-cells-requires c κs =
@@ -71,8 +59,7 @@ drop-cells-requires c κs =
     omega (
       arith,
       read (s .pre .0) (ground-there d),
-      few-dropped (s .pre .0) (s .pre .1 .0) (s .pre .1 .1)
-          (d .pending-at .ensures),
+      few-dropped (s .pre .0) (s .pre .1 .0) (s .pre .1 .1) (d .pending-at .ensures),
     )
 
 same-length : tie.Need-same-length
@@ -82,55 +69,28 @@ returns : tie.Need-returns
 returns c =
     let d = c .before .before .before .before .before in
     let s = start d in
-    turn-dropped (s .pre .0) (s .pre .1 .0) (s .pre .1 .1)
-    (d .pending-at .ensures)
-    (s .args .dropping) (read (s .pre .0) (ground-there d))
-    (c .before .before .is-dropped .ensures)
-    (c .before .if1 .taken) (c .drop-cells .ensures)
-
-shared-slice-read-step-of : tie.Need-shared-slice-read-step-of
-shared-slice-read-step-of c = let d = c .before .before .before .before .before in
-    omega (arith, indexed (start d .pre .0) (ground-there d))
-
-step-of-requires : tie.Need-step-of-requires
-step-of-requires c κs = search needs
-
-plus-requires : tie.Need-plus-requires
-plus-requires c κs =
-    let d = c .before .before .before .before .before .before in
-    let s = start d in
-    let l = small-length (s .pre .0) (s .pre .1 .0) (s .pre .1 .1)
-    (d .pending-at .ensures) in
-    (omega arith, omega arith)
+    turn-dropped (s .pre .0) (s .pre .1 .0) (s .pre .1 .1) (d .pending-at .ensures) (s .args .dropping)
+    (read (s .pre .0) (ground-there d)) (c .before .before .is-dropped .ensures) (c .before .if1 .taken)
+    (c .drop-cells .ensures)
 
 enter-cell-requires : tie.Need-enter-cell-requires
 enter-cell-requires c κs =
-    let d = c .before .before .before .before .before .before .before .before in
-    let s = start d in (
-      s .pre .0,
-      (
-        ground-there d,
-        fits (s .pre .0) (s .pre .1 .0) (s .pre .1 .1)
-            (d .pending-at .ensures),
-      ),
-    )
+    let d = c .before .before .before .before .before in
+    let s = start d in
+    (s .pre .0, (ground-there d, fits (s .pre .0) (s .pre .1 .0) (s .pre .1 .1) (d .pending-at .ensures)))
 
 same-length-2 : tie.Need-same-length-2
 same-length-2 c = search needs
 
 returns-2 : tie.Need-returns-2
 returns-2 c =
-    let d = c .before .before .before .before .before .before .before .before .before .before .before in
-    let s = start d in
     let e = c .before .before .enter-cell in
-    turn-entered (s .pre .0) (s .pre .1 .0) (s .pre .1 .1)
-    (d .pending-at .ensures)
-    (s .args .dropping) (read (s .pre .0) (ground-there d))
-    (c .before .before .before .before .before .before .before .before .is-dropped .ensures)
-    (c .before .before .before .before .before .before .before .if1 .left)
-    (c .before .before .before .before .plus .ensures
-    ∙ ap (plusStep (d .pending-at .result .below)) (c .before .before .before .before .before .step-of .ensures))
-    (e .ensures) (e .kept .1 .1 .1 .1 .1 .1 .1 .1 .1 .1 .1 .0)
+    let i = c .before .before .before .before in
+    let d = i .before .before .before .before in
+    let s = start d in
+    turn-entered (s .pre .0) (s .pre .1 .0) (s .pre .1 .1) (d .pending-at .ensures) (s .args .dropping)
+    (read (s .pre .0) (ground-there d)) (i .before .is-dropped .ensures) (i .if1 .left) (e .ensures)
+    (e .kept .1 .1 .1 .1 .1 .1 .1 .1 .1 .1 .1 .0)
 
 pub turn-spec : {M : Type 1} → statement M
 turn-spec =
@@ -138,17 +98,14 @@ turn-spec =
     (tie.spec
     sub-top
     pending-at-requires
-    mul-at
-    add-at
     mul-n
+    add-n
+    mul-n-2
     shared-slice-read-n
     is-dropped-requires
     drop-cells-requires
     same-length
     returns
-    shared-slice-read-step-of
-    step-of-requires
-    plus-requires
     enter-cell-requires
     same-length-2
     returns-2)

@@ -4,7 +4,7 @@ use second_reading::entries::{self, Terrain};
 use second_reading::ground::Ground;
 
 use super::Comparison;
-use crate::tally::Entry;
+use crate::tally::{Accepted, Entry, Searches};
 
 #[derive(Clone, Copy, Debug, PartialEq, Eq)]
 pub enum Engine {
@@ -118,8 +118,10 @@ impl Comparison {
         );
         if tracing.number() == 0 {
             let ground = Ground::new(rows, cols, codes.contents);
-            let outlet = outlets.contents[place] as usize;
-            self.tally.sights.count(ground, outlet, outlets.contents);
+            let (outlet, outlets) = (outlets.contents[place] as usize, outlets.contents);
+            let starts = &starts.due[..tracing.results()[2] as usize];
+            let searches = (dropping != 0).then(|| Searches::of(ground, outlet, outlets, starts));
+            self.tally.sights.count(&Accepted { ground, outlet, outlets, searches });
         }
         Traced {
             number: tracing.number(),

@@ -1,29 +1,54 @@
-//! What tracings that were accepted had to do with ponds.
+//! What tracings that were accepted had to do with ponds, and what those with dropping dropped.
 
 use second_reading::ground::Ground;
 
-/// Something to be seen of a ground, the outlet that is traced, and the list it stands in.
-type Sight = (&'static str, fn(Ground, usize, &[u32]) -> bool);
+use super::searches::Searches;
 
-const SIGHTS: [Sight; 8] = [
-    ("ground without ponds", |ground, _, _| ponds(ground).next().is_none()),
-    ("a pond that is no outlet", |ground, _, outlets| {
-        ponds(ground).any(|pond| !outlets.contains(&(pond as u32)))
+/// A tracing that was accepted: the ground, the outlet that is traced, and the list it stands in.
+pub struct Accepted<'a> {
+    pub ground: Ground<'a>,
+    pub outlet: usize,
+    pub outlets: &'a [u32],
+    /// With dropping.
+    pub searches: Option<Searches>,
+}
+
+/// Something to be seen of it.
+type Sight = (&'static str, fn(&Accepted) -> bool);
+
+const SIGHTS: [Sight; 12] = [
+    ("ground without ponds", |tracing| ponds(tracing.ground).next().is_none()),
+    ("a pond that is no outlet", |tracing| {
+        ponds(tracing.ground).any(|pond| !tracing.outlets.contains(&(pond as u32)))
     }),
-    ("an outlet above a pond", |ground, outlet, _| {
+    ("an outlet above a pond", |&Accepted { ground, outlet, .. }| {
         ground.walk(outlet).skip(1).any(|cell| ground.is_pond(cell))
     }),
-    ("an outlet beside a pond and not above it", |ground, outlet, _| {
+    ("an outlet beside a pond and not above it", |&Accepted { ground, outlet, .. }| {
         around(ground, outlet)
             .any(|cell| ground.is_pond(cell) && ground.below(outlet) != Some(cell))
     }),
-    ("a pond as outlet", |ground, outlet, _| ground.is_pond(outlet)),
-    ("a pond as the only cell", |ground, outlet, _| ground.is_pond(outlet) && ground.cells() == 1),
-    ("a pond amidst eight inflows as outlet", |ground, outlet, _| {
+    ("a pond as outlet", |&Accepted { ground, outlet, .. }| ground.is_pond(outlet)),
+    ("a pond as the only cell", |&Accepted { ground, outlet, .. }| {
+        ground.is_pond(outlet) && ground.cells() == 1
+    }),
+    ("a pond amidst eight inflows as outlet", |&Accepted { ground, outlet, .. }| {
         ground.is_pond(outlet) && ground.inflows(outlet).count() == 8
     }),
-    ("a pond beside a pond as outlet", |ground, outlet, _| {
+    ("a pond beside a pond as outlet", |&Accepted { ground, outlet, .. }| {
         ground.is_pond(outlet) && around(ground, outlet).any(|cell| ground.is_pond(cell))
+    }),
+    ("fewer cells visited than by the first limit", |tracing| {
+        dropped(tracing, |searches| searches.step.visited < searches.first.visited)
+    }),
+    ("a neighbour entered at a limit equal to the greatest met", |tracing| {
+        dropped(tracing, |searches| searches.step.equal_limits > 0)
+    }),
+    ("a neighbour dropped above a straight step", |tracing| {
+        dropped(tracing, |searches| searches.step.straight_drops > 0)
+    }),
+    ("a neighbour dropped above a diagonal step", |tracing| {
+        dropped(tracing, |searches| searches.step.diagonal_drops > 0)
     }),
 ];
 
@@ -35,16 +60,19 @@ fn around(ground: Ground<'_>, cell: usize) -> impl Iterator<Item = usize> + '_ {
     (0..8).filter_map(move |way| ground.neighbour(cell, way))
 }
 
+fn dropped(tracing: &Accepted, is_seen: fn(&Searches) -> bool) -> bool {
+    tracing.searches.as_ref().is_some_and(is_seen)
+}
+
 #[derive(Default)]
 pub struct Sights {
     counts: [u64; SIGHTS.len()],
 }
 
 impl Sights {
-    /// Counts a tracing that was accepted.
-    pub fn count(&mut self, ground: Ground, outlet: usize, outlets: &[u32]) {
+    pub fn count(&mut self, tracing: &Accepted) {
         for (count, (_, is_seen)) in self.counts.iter_mut().zip(SIGHTS) {
-            *count += u64::from(is_seen(ground, outlet, outlets));
+            *count += u64::from(is_seen(tracing));
         }
     }
 

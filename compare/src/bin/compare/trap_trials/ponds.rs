@@ -33,38 +33,39 @@ pub const PONDS: [Trap; 21] = [
         outlets: &[7, 4],
         answers: &[
             answer(3, (1, 0), &[8, 6], 3, 0),
-            answer(6, (0, 1), &[0, 2], 6, 0),
+            answer(6, (0, 1), &[0, 2], 5, 1),
         ],
     },
     Trap {
-        // √2 is met at 8; every later limit is √2, too.
+        // √2 is met at 8 and is every later diagonal limit; 7, 3 and 1 are dropped.
         name: "eight inflows to a pond", rows: 3, cols: 3,
         codes: &[2, 4, 8, 1, 255, 16, 128, 64, 32],
         accumulation: &[1, 1, 1, 1, 9, 1, 1, 1, 1],
         outlets: &[4],
-        answers: &[answer(9, (0, 1), &[8, 6, 0, 2], 9, 0)],
+        answers: &[answer(9, (0, 1), &[8, 6, 0, 2], 6, 3)],
     },
     Trap {
-        // After six short inflows the last, at 6, leads farther.
+        // After six short inflows, 8 and 5 of them dropped, the last, at 6, leads
+        // farther.
         name: "a late longer path into a pond", rows: 4, cols: 4,
         codes: &[0, 0, 0, 8, 2, 4, 8, 0, 1, 255, 16, 0, 128, 0, 32, 0],
         accumulation: &[0, 0, 0, 1, 1, 1, 2, 0, 1, 9, 1, 0, 1, 0, 1, 0],
         outlets: &[9],
-        answers: &[answer(9, (0, 2), &[3], 9, 0)],
+        answers: &[answer(9, (0, 2), &[3], 7, 2)],
     },
     Trap {
         name: "five inflows to a pond at the edge", rows: 2, cols: 3,
         codes: &[1, 255, 16, 128, 64, 32],
         accumulation: &[1, 6, 1, 1, 1, 1],
         outlets: &[1],
-        answers: &[answer(6, (0, 1), &[5, 3], 6, 0)],
+        answers: &[answer(6, (0, 1), &[5, 3], 4, 2)],
     },
     Trap {
         name: "three inflows to a pond in the corner", rows: 2, cols: 2,
         codes: &[255, 16, 64, 32],
         accumulation: &[4, 1, 1, 1],
         outlets: &[0],
-        answers: &[answer(4, (0, 1), &[3], 4, 0)],
+        answers: &[answer(4, (0, 1), &[3], 3, 1)],
     },
     Trap {
         name: "a spiral into a pond", rows: 3, cols: 3,
@@ -74,7 +75,7 @@ pub const PONDS: [Trap; 21] = [
         answers: &[answer(9, (8, 0), &[0], 9, 0)],
     },
     Trap {
-        // Four to the east; 2√2 is shorter, so both western cells go at once.
+        // Four to the east; 1 + √2 is shorter, so both western cells go at once.
         name: "a drop above a pond", rows: 1, cols: 7,
         codes: &[1, 1, 255, 16, 16, 16, 16],
         accumulation: &[1, 2, 7, 4, 3, 2, 1],
@@ -184,6 +185,8 @@ pub const PONDS: [Trap; 21] = [
     },
     Trap {
         // 2, 7 and 12 lie between the ponds 6 and 8, and flow to one of them.
+        // Straight inflows after a diagonal one are dropped: 13, 7 and 3 of 8, 5
+        // and 1 of 6.
         name: "two ponds share the ground", rows: 3, cols: 5,
         codes: &[
             2, 4, 8, 4, 8,
@@ -197,8 +200,8 @@ pub const PONDS: [Trap; 21] = [
         ],
         outlets: &[8, 6],
         answers: &[
-            answer(8, (0, 1), &[14, 12, 4], 8, 0),
-            answer(7, (0, 1), &[10, 0, 2], 7, 0),
+            answer(8, (0, 1), &[14, 12, 4], 5, 3),
+            answer(7, (0, 1), &[10, 0, 2], 5, 2),
         ],
     },
 ];

@@ -26,13 +26,13 @@ pub const TRAPS: [Trap; 26] = [
         answers: &[answer(4, (2, 0), &[3], 3, 1)],
     },
     Trap {
-        // From 7 at 0: east and west are met at 1; then 4, with 6 cells, is
-        // entered at 1, where 1 + √2 is never shorter than what was met.
+        // Of the inflows of 4, one step up, 5, 3 and 0 are visited, and 1 + √2 is
+        // met. The next has the limit 1 + 1 and is dropped; the last ties.
         name: "M4", rows: 3, cols: 3,
         codes: &[2, 4, 8, 1, 4, 16, 1, 4, 16],
         accumulation: &[1, 1, 1, 1, 6, 1, 1, 9, 1],
         outlets: &[7],
-        answers: &[answer(9, (1, 1), &[0, 2], 9, 0)],
+        answers: &[answer(9, (1, 1), &[0, 2], 8, 1)],
     },
     Trap {
         name: "M5", rows: 3, cols: 3,
@@ -41,7 +41,7 @@ pub const TRAPS: [Trap; 26] = [
         outlets: &[7, 4],
         answers: &[
             answer(3, (1, 0), &[8, 6], 3, 0),
-            answer(6, (0, 1), &[0, 2], 6, 0),
+            answer(6, (0, 1), &[0, 2], 5, 1),
         ],
     },
     Trap {
@@ -61,30 +61,33 @@ pub const TRAPS: [Trap; 26] = [
         answers: &[answer(4, (1, 1), &[5, 1], 4, 0)],
     },
     Trap {
-        // √2 met first; the straight neighbour's limit is √2 too.
-        name: "limit equal to the greatest, shorter in truth", rows: 2, cols: 2,
+        // √2 met first; the straight neighbour's limit is 1.
+        name: "a straight neighbour after a diagonal one", rows: 2, cols: 2,
         codes: &[64, 0, 64, 32],
         accumulation: &[3, 0, 1, 1],
         outlets: &[0],
-        answers: &[answer(3, (0, 1), &[3], 3, 0)],
+        answers: &[answer(3, (0, 1), &[3], 2, 1)],
     },
     Trap {
+        // √2 is met at 8 and is the limit of 6, 0 and 2. 3 and 1, one straight
+        // step away, are dropped.
         name: "limit equal to the greatest, ties on all diagonals", rows: 3, cols: 3,
         codes: &[2, 4, 8, 1, 4, 16, 128, 0, 32],
         accumulation: &[1, 1, 1, 1, 8, 1, 1, 0, 1],
         outlets: &[4],
-        answers: &[answer(8, (0, 1), &[8, 6, 0, 2], 8, 0)],
+        answers: &[answer(8, (0, 1), &[8, 6, 0, 2], 6, 2)],
     },
     Trap {
-        // Short ties from seven neighbours, then the last leads farther.
+        // Short ties from six neighbours, of which 8 and 5, straight after a
+        // diagonal one, are dropped; then the last leads farther.
         name: "a late longer path after short ties", rows: 4, cols: 4,
         codes: &[0, 0, 0, 8, 2, 4, 8, 0, 1, 4, 16, 0, 128, 0, 32, 0],
         accumulation: &[0, 0, 0, 1, 1, 1, 2, 0, 1, 9, 1, 0, 1, 0, 1, 0],
         outlets: &[9],
-        answers: &[answer(9, (0, 2), &[3], 9, 0)],
+        answers: &[answer(9, (0, 2), &[3], 7, 2)],
     },
     Trap {
-        // Four to the east; 2√2 is shorter, so both western cells go at once.
+        // Four to the east; 1 + √2 is shorter, so both western cells go at once.
         name: "a drop takes all cells above", rows: 1, cols: 7,
         codes: &[1, 1, 4, 16, 16, 16, 16],
         accumulation: &[1, 2, 7, 4, 3, 2, 1],
@@ -92,8 +95,9 @@ pub const TRAPS: [Trap; 26] = [
         answers: &[answer(7, (4, 0), &[6], 5, 2)],
     },
     Trap {
-        // At 8, three steps up, 3 + √2 is longer than 4: 3 is visited and
-        // ties. At 6, one step up, 1 + √2 is shorter: 1 is dropped.
+        // At 8, three steps up, four steps are met and are the limit of the
+        // northern cell too, which ties. At 6, one step up, the limit of the
+        // northern cell is two steps: it is dropped.
         name: "drops look at the length so far", rows: 2, cols: 5,
         codes: &[0, 4, 0, 4, 0, 16, 16, 16, 16, 16],
         accumulation: &[0, 1, 0, 1, 0, 7, 6, 4, 3, 1],
@@ -202,12 +206,12 @@ pub const TRAPS: [Trap; 26] = [
         ],
     },
     Trap {
-        // Straight inflows after a diagonal one have an equal limit.
+        // Straight inflows after a diagonal one are dropped.
         name: "five inflows at the edge", rows: 2, cols: 3,
         codes: &[1, 64, 16, 128, 64, 32],
         accumulation: &[1, 6, 1, 1, 1, 1],
         outlets: &[1],
-        answers: &[answer(6, (0, 1), &[5, 3], 6, 0)],
+        answers: &[answer(6, (0, 1), &[5, 3], 4, 2)],
     },
     Trap {
         // M2 with 0 an outlet too: its cell and its tie are its own.
