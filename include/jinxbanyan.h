@@ -64,8 +64,9 @@ uint32_t jb_convert(uint32_t from, uint32_t to, size_t rows, size_t cols, const 
                     uint8_t *converted, size_t converted_count);
 
 /* 10, 11, 12, 14 to 18, 20, 21. Traces all longest paths to the outlet at a place of the list, counted from 0. Dropping is
-   0 or not. Writes the subaccumulation, and the starts in order. The working space takes three numbers for each of the
-   outlet's cells. results: straight, diagonal, paths, visited, dropped.
+   0 or not: with it a side valley is left out in which every walk must be shorter than one met before, and only visited
+   and dropped differ. Writes the subaccumulation, and the starts in order. The working space takes three numbers for each
+   of the outlet's cells. results: straight, diagonal, paths, visited, dropped.
    20 leaves the subaccumulation written. 21 leaves it too, fills the list with the first starts, and tells 0, 0, the true
    number of paths, visited and dropped; any other refusal tells five zeros. On acceptance and 21 the working numbers that
    are asked for are 0. */

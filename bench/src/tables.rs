@@ -148,7 +148,9 @@ pub fn times(size: &Size) {
 
 /// The cells that a search with dropping visits by 01's rule and by the tight limit, for all sizes.
 pub fn visits(sizes: &[Size]) {
-    println!("### Cells visited with dropping, to the mouth: by the first limit and by the tight one\n");
+    println!(
+        "### Cells visited with dropping, to the mouth: by the first limit and by the tight one\n"
+    );
     let mut rows = Vec::new();
     for size in sizes {
         for ((kind, _), Trial { visits, .. }) in KINDS.iter().zip(&size.grounds) {

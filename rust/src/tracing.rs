@@ -3,7 +3,9 @@
 use crate::declared;
 
 /// Checks 10, 11, 12, 14 to 18, 20, 21. Traces all longest paths to the outlet at a place of the
-/// list, counted from 0; dropping is a `bool`, or a number that is 0 or not.
+/// list, counted from 0; dropping is a `bool`, or a number that is 0 or not. With it a side valley
+/// is left out in which every walk must be shorter than one met before; only visited and dropped
+/// differ.
 ///
 /// Leaves the subaccumulation in its first rows × cols places and the starts, in order, in theirs.
 /// The working space takes three numbers for each of the outlet's cells, which end as 0. Results:

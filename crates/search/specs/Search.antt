@@ -51,7 +51,7 @@ module _ {S : Type 0} (𝓛 : Lengths S) where
   belowGreatest [] l = false
   belowGreatest (g ∷ gs) l = shorter l (g .len)
 
-  -- the limit of a neighbour with n cells, entered by a step from a cell at length d: no walk into it is longer
+  -- a limit on the walks into a neighbour: by the length d of the cell that it is entered from, the step, and its n cells
   abbrev pub Limit : Type 0
   Limit = Len → S → ℕ → Len
 
