@@ -97,7 +97,7 @@ module _ (q : Call) where
     room = length (old .starts)
 
     reached : allPass (within 20) before ≡ true → (number : ℕ)
-        → number ≡ firstFailed (before ++ (check21 (chosenTracing q) (old .starts) ∷ [])) → Reached room number
+        → number ≡ firstFailed (before ++ (check21 (pathCount (chosenTracing q)) (old .starts) ∷ [])) → Reached room number
     unfolding check10 check11 check12 check14 check15 check16 check17 check18 check21
     reached h number is-number = record {
       promise = λ i. passed-promise (old .subaccumulation) (passed 18 number (callChecks q (old .subaccumulation)) _

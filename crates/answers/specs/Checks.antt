@@ -11,7 +11,7 @@ use Rattle.ground.specs.Grid.{Grid, cellCount, ground}
 use Rattle.ground.specs.Walk.{ringFree}
 use Rattle.ground.specs.Accumulation.{agrees}
 use Rattle.ground.specs.Subwatershed.{inSubwatershed}
-use Rattle.search.specs.Tracing.{Tracing, pathCount, numbersEach}
+use Rattle.search.specs.Tracing.{numbersEach}
 
 -- a question with its number: does it pass?
 pub record Check : Type 0 where
@@ -78,9 +78,9 @@ check19 cells = check 19 (leb cells 4096)
 unfoldable pub check20 : ℕ → List ℕ → Check
 check20 cells work = check 20 (leb (numbersEach * cells) (length work))
 
--- 21, tracing: the list has a place for each longest path that the whole search found
-unfoldable pub check21 : Tracing → List ℕ → Check
-check21 tracing starts = check 21 (leb (pathCount tracing) (length starts))
+-- 21, tracing: the list has a place for each longest path that was found
+unfoldable pub check21 : ℕ → List ℕ → Check
+check21 paths starts = check 21 (leb paths (length starts))
 
 -- 22, drawing: the start lies in the outlet's subwatershed
 unfoldable pub check22 : Grid → List ℕ → ℕ → ℕ → Check

@@ -8,7 +8,7 @@ use lib.ListN.{length, getD}
 use Rattle.lists.specs.Lists.{member}
 use Rattle.lists.specs.Slices.{overlaid, zeros}
 use Rattle.ground.specs.Accumulation.{subaccumulation, subaccumulations}
-use Rattle.search.specs.Tracing.{Tracing, startCells, tracing, numbersEach}
+use Rattle.search.specs.Tracing.{Tracing, pathCount, startCells, tracing, numbersEach}
 use Rattle.answers.specs.declared.Traced.{Traced}
 use Rattle.answers.specs.Answers.{numberOf, tracedBy}
 use Rattle.answers.specs.Checks.{Check, firstFailed, check19, check20, check21}
@@ -78,7 +78,7 @@ pub record Traces (q : Call) (old : Lent) (number : ℕ) (r : Traced) (new : Len
 unfoldable pub recursionNumber : Call → Lent → ℕ
 recursionNumber q old = firstFailed (
     callChecks q (old .subaccumulation)
-    ++ (check19 (chosenCells q) ∷ check21 (chosenTracing q) (old .starts) ∷ [])
+    ++ (check19 (chosenCells q) ∷ check21 (pathCount (chosenTracing q)) (old .starts) ∷ [])
     )
 
 abbrev pub TracesByRecursion : Call → Lent → Traced → Lent → Type 0
@@ -89,7 +89,7 @@ TracesByRecursion q old r new = Traces q old (recursionNumber q old) r new
 unfoldable pub stackNumber : Call → Lent → List ℕ → ℕ
 stackNumber q old work = firstFailed (
     callChecks q (old .subaccumulation)
-    ++ (check20 (chosenCells q) work ∷ check21 (chosenTracing q) (old .starts) ∷ [])
+    ++ (check20 (chosenCells q) work ∷ check21 (pathCount (chosenTracing q)) (old .starts) ∷ [])
     )
 
 pub record TracesByStack (q : Call) (old : Lent) (work : List ℕ) (r : Traced) (new : Lent)

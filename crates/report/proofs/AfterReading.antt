@@ -135,7 +135,7 @@ module _ (s : Content) (w : Spellable s) where
       later =
           check14 g (c .accumulation) ∷ check15 (s .outlets) ∷ check16 g (s .outlets) ∷ check17 (s .outlets)
           ∷ check18 (s .outlets) place ∷ check20 (chosenCells (callAt c place)) startedWork
-          ∷ check21 (chosenTracing (callAt c place)) (startedLent .starts) ∷ []
+          ∷ check21 (pathCount (chosenTracing (callAt c place))) (startedLent .starts) ∷ []
 
       has-work : ground g o ≡ true → leb (numbersEach * chosenCells (callAt c place)) (length startedWork) ≡ true
       has-work v = le-leb (numbersEach * chosenCells (callAt c place)) (length startedWork)

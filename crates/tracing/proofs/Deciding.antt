@@ -76,12 +76,12 @@ module _ (q : Call) (old : Lent) where
   module _ {p : Prepared} {grid : List ℕ} (prep : Prepares (q .catchment) (q .place) (old .subaccumulation) p grid)
       (last : Check) where
     abbrev number : ℕ
-    number = firstFailed (choosing ++ (last ∷ check21 t (old .starts) ∷ []))
+    number = firstFailed (choosing ++ (last ∷ check21 (pathCount t) (old .starts) ∷ []))
 
     module _ (z : p .number ≡ 0 → ⊥) where
       -- REFUSED BY 10 TO 18
       early : number ≡ p .number
-      early = sym (handed-on choosing (last ∷ check21 t (old .starts) ∷ []) (prep .is-number) z)
+      early = sym (handed-on choosing (last ∷ check21 (pathCount t) (old .starts) ∷ []) (prep .is-number) z)
 
       small : p .number < 19
       small = elim (decLt (p .number) 19) [
@@ -94,8 +94,8 @@ module _ (q : Call) (old : Lent) where
       refused-early e = rw (early, e, prep .refused z) (at-first (p .number) z small)
 
     module _ (z : p .number ≡ 0) where
-      beyond : number ≡ firstFailed (last ∷ check21 t (old .starts) ∷ [])
-      beyond = beyond-place (q .catchment) _ (q .place) (last ∷ check21 t (old .starts) ∷ [])
+      beyond : number ≡ firstFailed (last ∷ check21 (pathCount t) (old .starts) ∷ [])
+      beyond = beyond-place (q .catchment) _ (q .place) (last ∷ check21 (pathCount t) (old .starts) ∷ [])
           (sym (prep .is-number) ∙ z)
 
       -- BY 19 OR 20

@@ -24,7 +24,7 @@ use Rattle.answers.specs.declared.Traced.{Traced}
 use Rattle.lists.proofs.Members.{member-at}
 use Rattle.lists.proofs.Overlaid.{overlaid-length}
 use Rattle.listing.specs.Answering.{answerWith}
-use Rattle.tracing.specs.Answering.{cellsOf, Lists}
+use Rattle.tracing.specs.Answering.{cellsOf, Told, Lists}
 use Rattle.tracing.specs.Preparing.{Chosen}
 
 -- starts of one length: their cells, and the length of the first
@@ -71,13 +71,11 @@ module _ {rows cols : ℕ} {codes outlets subaccumulations : List ℕ}
         subst (λ (y : ℕ). Searched land outlets dropping y end p new) (cell .is-number) s
 
     -- the same in as much working space as the outlet has cells
-    pub searched-within : {dropping : Bool} {p : Progress} {new : List ℕ} {n : ℕ}
-        → n ≡ cellsOf rows cols codes outlets place
+    pub searched-within : {dropping : Bool} {p : Progress} {new : List ℕ}
         → Searched land outlets dropping (row * cols + col) (3 * cellsAt rows cols codes outlets row col) p new
-        → Searched land outlets dropping outlet (3 * n) p new
-    searched-within {dropping} {p} {new} e s =
-        subst (λ (m : ℕ). Searched land outlets dropping outlet (3 * m) p new) (cells-there ∙ sym e)
-        (searched-there s)
+        → Searched land outlets dropping outlet (3 * cellsOf rows cols codes outlets place) p new
+    searched-within {dropping} {p} {new} s =
+        subst (λ (m : ℕ). Searched land outlets dropping outlet (3 * m) p new) cells-there (searched-there s)
 
   module _ {dropping : Bool} {end : ℕ} {p : Progress} {new : List ℕ}
       (s : Searched land outlets dropping outlet end p new) where
@@ -100,16 +98,27 @@ module _ {rows cols : ℕ} {codes outlets subaccumulations : List ℕ}
         (chosen .solid) dropping in
         omega (arith, subst (λ (t : Tracing). 0 < pathCount t) found (d .not-none), count)
 
-    -- so are the answer and the list
-    pub lists-found : {old list : List ℕ} {r : Traced}
-        → r ≡ answerWith (p .greatest) (p .paths) (p .visited) (p .dropped) (length list)
-        → list ≡ overlaid (kept new end (p .paths)) old → Lists (tracing dropping land outlets outlet) old r list
-    lists-found {old} {list} {r} e l =
-        subst (λ (t : Tracing). Lists t old r list) (sym found) (record {
-          answers = e ∙ rw (
-            first-of (p .greatest) (kept new end (p .paths)) (omega (arith, some-path, many)),
-            count,
-            ap length l ∙ overlaid-length (kept new end (p .paths)) old,
-          );
-          lists = l ∙ ap (λ (cs : List ℕ). overlaid cs old) (sym (cells-of (p .greatest) (kept new end (p .paths))));
-        })
+    pub told : Told (tracing dropping land outlets outlet) end p new
+    told = subst (λ (t : Tracing). Told t end p new) (sym found) (record {
+      longest = sym (first-of (p .greatest) (kept new end (p .paths)) (omega (arith, some-path, many)));
+      count = sym count;
+      visited = refl;
+      dropped = refl;
+      starts = sym (cells-of (p .greatest) (kept new end (p .paths)));
+    })
+
+-- so are the answer and the list
+pub lists-told : {t : Tracing} {end : ℕ} {p : Progress} {new : List ℕ} → Told t end p new
+    → {old list : List ℕ} {r : Traced}
+    → r ≡ answerWith (p .greatest) (p .paths) (p .visited) (p .dropped) (length list)
+    → list ≡ overlaid (kept new end (p .paths)) old → Lists t old r list
+lists-told {t} {end} {p} {new} f {old} {list} {r} e l = record {
+  answers = e ∙ rw (
+    f .longest,
+    f .count,
+    f .visited,
+    f .dropped,
+    ap length l ∙ overlaid-length (kept new end (p .paths)) old,
+  );
+  lists = l ∙ ap (λ (cs : List ℕ). overlaid cs old) (f .starts);
+}

@@ -3,13 +3,15 @@
 use mathlib.Core.Path.{_≡_}
 use mathlib.Core.Bool.{Bool, cond}
 use mathlib.Core.List.{List}
-use Prim.Native.Nat.{ℕ, _*_}
+use Prim.Native.Nat.{ℕ, _+_, _*_, _≤_}
 use lib.ListN.{length, getD}
 use lib.Dec.{leb}
-use Rattle.lists.specs.Slices.{overlaid, zeros}
+use Rattle.lists.specs.Slices.{overlaid, zeros, Kept}
 use Rattle.ground.specs.Grid.{gridOf}
 use Rattle.ground.specs.Accumulation.{subaccumulation}
-use Rattle.search.specs.Tracing.{Tracing, pathCount, startCells, tracing, numbersEach}
+use Rattle.search.specs.Tracing.{Tracing, longestLength, pathCount, startCells, tracing, numbersEach}
+use Rattle.progress.specs.declared.Progress.{Progress}
+use Rattle.progress.specs.Starts.{kept}
 use Rattle.answers.specs.declared.Traced.{Traced}
 use Rattle.answers.specs.Answers.{tracedBy}
 
@@ -24,6 +26,21 @@ module _ (rows cols : ℕ) (codes outlets : List ℕ) (place : ℕ) where
 
   abbrev pub tracingAt : Bool → Tracing
   tracingAt dropping = tracing dropping (gridOf rows cols codes) outlets (getD outlets place 0)
+
+-- a search ended with what the tracing tells, and its starts before an end
+pub record Told (t : Tracing) (end : ℕ) (r : Progress) (new : List ℕ) : Type 0 where
+  pub longest : r .greatest ≡ longestLength t
+  pub count : r .paths ≡ pathCount t
+  pub visited : r .visited ≡ t .visited
+  pub dropped : r .dropped ≡ t .dropped
+  pub starts : kept new end (r .paths) ≡ startCells t
+
+-- in the working numbers of so many cells
+pub record ToldWithin (t : Tracing) (cells : ℕ) (old : List ℕ) (r : Progress) (new : List ℕ) : Type 0 where
+  pub told : Told t (numbersEach * cells) r new
+  pub all-cells : r .visited + r .dropped ≡ cells
+  pub few-paths : r .paths ≤ r .visited
+  pub only : Kept (numbersEach * cells) old new
 
 -- an engine has answered, and listed the starts
 pub record Lists (t : Tracing) (old : List ℕ) (r : Traced) (new : List ℕ) : Type 0 where

@@ -8,6 +8,7 @@ use listing::list_starts;
 use listing::refused;
 use lists::clear;
 use lists::index_of;
+use progress::Progress;
 use stack::NUMBERS_EACH;
 ghost use Prim.Native.Nat.{_*_, _≤_};
 ghost use lib.ListN.{length};
@@ -15,7 +16,7 @@ ghost use Rattle.search.specs.Tracing.{numbersEach};
 ghost use Rattle.upstream.specs.Ready.{Ready};
 ghost use Rattle.answers.specs.Entries.{catchment};
 ghost use Rattle.answers.specs.Tracings.{callOf, lent, TracesByRecursion, TracesByStack};
-ghost use Rattle.tracing.specs.Answering.{cellsOf, tracingAt, Lists, ListsAndClears};
+ghost use Rattle.tracing.specs.Answering.{cellsOf, tracingAt, ToldWithin, Lists, ListsAndClears};
 ghost use Rattle.tracing.specs.Preparing.{Chosen, Prepares};
 
 // Traces an outlet by recursion, in a grid that holds the subaccumulation. The starts wait in an array, since those
@@ -53,8 +54,40 @@ fn by_recursion(
     answer_for(p, starts.len())
 }
 
-// Traces an outlet from pending cells, in a grid that holds the subaccumulation. The starts wait at the end of the
-// working numbers, which are then cleared.
+// Searches an outlet's subwatershed from pending cells, in a grid that holds the subaccumulation. The starts are left
+// before the end of the working numbers that the outlet's cells take.
+pub fn search_at(
+    rows: usize,
+    cols: usize,
+    codes: &[u8],
+    outlets: &[u32],
+    subaccumulation: &[u32],
+    dropping: bool,
+    place: usize,
+    work: &mut [u32],
+) -> Progress
+    requires { ⌜ Ready rows cols (now codes) (now outlets) (now subaccumulation) ⌝ }
+    requires { ⌜ Chosen rows cols (now codes) (now outlets) place ⌝ }
+    requires { ⌜ numbersEach * cellsOf rows cols (now codes) (now outlets) place ≤ length (now work) ⌝ }
+    ensures { λ r. ⌜ ToldWithin (tracingAt rows cols (now (codes .entry)) (now (outlets .entry)) place dropping)
+        (cellsOf rows cols (now (codes .entry)) (now (outlets .entry)) place) (now (work .entry)) r
+        (now (work .exit)) ⌝ }
+{
+    let outlet = split_number(cols, outlets[place]);
+    stack::trace(
+        rows,
+        cols,
+        codes,
+        outlets,
+        subaccumulation,
+        dropping,
+        outlet.row,
+        outlet.col,
+        work,
+    )
+}
+
+// Traces an outlet from pending cells. The starts are listed, and the working numbers cleared.
 fn by_stack(
     rows: usize,
     cols: usize,
@@ -75,16 +108,14 @@ fn by_stack(
 {
     let at = index_of(outlets[place]);
     let end = NUMBERS_EACH * index_of(subaccumulation[at]);
-    let outlet = split_number(cols, outlets[place]);
-    let p = stack::trace(
+    let p = search_at(
         rows,
         cols,
         codes,
         outlets,
         subaccumulation,
         dropping,
-        outlet.row,
-        outlet.col,
+        place,
         work,
     );
     list_starts(work, end, p.paths, starts);

@@ -6,7 +6,7 @@ use lib.ListN.{getD}
 use borrow.Author.Needs.{needs}
 use Rattle.ground.specs.Grid.{gridOf}
 use Rattle.upstream.specs.Ready.{Searched}
-use Rattle.tracing.proofs.Searching.{at-outlet, cells-there, searched-there, lists-found}
+use Rattle.tracing.proofs.Searching.{at-outlet, cells-there, searched-there, told, lists-told}
 use Rattle.tracing.proofs.by_recursion.Statement.{statement}
 use Rattle.tracing.proofs.by_recursion.Tie as tie
 
@@ -59,7 +59,7 @@ returns c =
     let l = c .before .before .before in
     let t = l .before .before .before in
     let s = t .before .before .before .before .before .before .before .before in
-    lists-found (s .pre .0) (s .pre .1 .0) (searched t) (c .answer-for .ensures) (l .list-starts .ensures)
+    lists-told (told (s .pre .0) (s .pre .1 .0) (searched t)) (c .answer-for .ensures) (l .list-starts .ensures)
 
 pub by-recursion-spec : {M : Type 1} → statement M
 by-recursion-spec =
