@@ -15,7 +15,6 @@ use Rattle.ground.specs.Grid.{Grid, gridOf}
 use Rattle.ground.specs.Accumulation.{subaccumulation}
 use Rattle.ground.specs.Forest.{forest}
 use Rattle.search.specs.Search.{State, tracingRule, dropCells, searchFrom}
-use Rattle.search.specs.Neighbours.{enter}
 use Rattle.search.proofs.Neighbours.{search-enters}
 use Rattle.progress.specs.declared.Progress.{Progress}
 use Rattle.progress.specs.Starts.{kept, begun, isBelow, stateOf}

@@ -6,7 +6,6 @@ use native.Mathlib.Omega.{arith}
 use lib.ListN.{getD}
 use borrow.Fn.Kinds.{In}
 use borrow.Fn.PlainCycle.{Measures, is, falls, and}
-use borrow.Author.Needs.{needs}
 use Rattle.recursion.specs.Tracing.{InflowsReady, InflowsTraced}
 use Rattle.recursion.proofs.Cell.{cells-read, has-place, has-room, inflows-ready, cell-traced}
 use Rattle.recursion.proofs.Inflows.{inflows-done, fewer, small-cells, small-len, cells-lent, testable}

@@ -1,11 +1,10 @@
 -- `upstream::step_at` meets its contract: what is left is diagonal.
 -- Assumes nothing.
-use mathlib.Core.Path.{_≡_, refl, sym}
+use mathlib.Core.Path.{_≡_, refl}
 use Prim.Native.Nat.{ℕ, zero, suc}
 use Rattle.lengths.specs.declared.Step.the-variants.{Diagonal}
 use Rattle.ground.specs.Compass.{opposite, stepOf}
 use Rattle.moves.specs.Moves.{dirAt}
-use borrow.Author.Needs.{needs}
 use Rattle.upstream.proofs.step_at.Statement.{statement}
 use Rattle.upstream.proofs.step_at.Tie as tie
 
