@@ -114,6 +114,12 @@ module _ (c : Catchment) (lent : List ℕ) where
   unfolding check10 check11 check12 check14 check15 check16 check17
   beyond-outlets ds e = goes-on (outletChecks c lent) ds (apart 17 0 (inl (omega arith)) (outletChecks c lent) refl) e
 
+  -- and 10 to 17 give no number beyond
+  pub outlets-at-most : (n : ℕ) → 17 < n → firstFailed (outletChecks c lent) ≡ n → ⊥
+  unfolding check10 check11 check12 check14 check15 check16 check17
+  outlets-at-most n h = never n (λ e. absurd (omega (arith, h, e))) (outletChecks c lent)
+      (apart 17 n (inr h) (outletChecks c lent) refl)
+
   -- THE OUTLETS, where the number is none of 10 to 17
   pub listed : (rest : List Check) (n : ℕ) → (n < 10) ⊎ (17 < n) → firstFailed (outletChecks c lent ++ rest) ≡ n
       → Listed (c .grid) (c .accumulation) (c .outlets)

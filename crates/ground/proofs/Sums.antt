@@ -46,6 +46,11 @@ unfolding sumTo
 sum-le zero f h = omega arith
 sum-le (suc n) f h = omega (arith, sum-le n f h, h n)
 
+pub sum-each : (n : ℕ) (f g : ℕ → ℕ) → ((c : ℕ) → f c ≤ g c) → sumTo n f ≤ sumTo n g
+unfolding sumTo
+sum-each zero f g h = omega arith
+sum-each (suc n) f g h = omega (arith, sum-each n f g h, h n)
+
 sum-above : (n a : ℕ) → n ≤ a → sumTo n (one a) ≡ 0
 unfolding sumTo
 sum-above zero a h = refl

@@ -5,10 +5,14 @@ use mathlib.Core.Path.{_≡_}
 use mathlib.Core.Bool.{Bool, not}
 use mathlib.Core.List.{List, [], _∷_}
 use Prim.Native.Nat.{ℕ}
+use lib.ListN.{length}
 use lib.Dec.{eqb}
 use Rattle.answers.specs.declared.Traced.{Traced}
+use Rattle.answers.specs.declared.TracedAll.{TracedAll}
 use Rattle.answers.specs.Answers.{inNumbers}
+use Rattle.answers.specs.Entries.{Catchment}
 use Rattle.answers.specs.Tracings.{Call, Lent, TracesByRecursion, TracesByStack}
+use Rattle.answers.specs.AllOutlets.{LentAll, TracesAll, partBegin, partCount}
 use Rattle.answers.specs.Drawing.{Drawing, Draws}
 use Rattle.spelling.specs.declared.Sheet.{Sheet}
 use Rattle.spelling.specs.declared.Written.{Written}
@@ -38,6 +42,17 @@ pub record StackInC (q : Call) (old : Lent) (work : List ℕ) (number : ℕ) (re
   pub answer : Traced
   pub traces : TracesByStack q old work answer new space
   pub in-numbers : InNumbers answer number results
+
+pub record AllInC (c : Catchment) (old : LentAll) (number : ℕ) (sums : List ℕ) (new : LentAll) : Type 0 where
+  pub answer : TracedAll
+  pub traces : TracesAll c old answer new
+  pub is-number : number ≡ answer .number
+  pub is-sums : sums ≡ answer .visited ∷ answer .dropped ∷ []
+
+-- where the part begins and how many starts it has, both 0 where it is empty; the list itself is only measured
+pub record PartInC (starts counts : List ℕ) (choice : ℕ) (part : List ℕ) : Type 0 where
+  pub is-part : part
+      ≡ partBegin counts choice (length starts) ∷ partCount counts choice (length starts) ∷ []
 
 pub record DrawingInC (q : Drawing) (old : List ℕ) (number : ℕ) (drawn new : List ℕ) : Type 0 where
   pub count : ℕ

@@ -1,5 +1,5 @@
-// The library's entries for programs in C: each slice is a pointer and a count of elements, and each function returns
-// the refusal number. Places for results are written on every call. Slices of one call must not overlap.
+// The library's entries for programs in C: each slice is a pointer and a count of elements, and each function but
+// jb_starts_of returns the refusal number. Places for results are written on every call. Slices of one call must not overlap.
 use answers::Traced;
 use answers::in_numbers;
 ghost use mathlib.Core.Path.{_≡_};
@@ -8,10 +8,11 @@ ghost use Rattle.answers.specs.Entries.{catchment, Accumulates, checkNumber, Su
 ghost use Rattle.answers.specs.FlowLengths.{lengthGrids, TellsFlowLengths};
 ghost use Rattle.answers.specs.Converting.{conversion, Converts};
 ghost use Rattle.answers.specs.Tracings.{callOf, lent};
+ghost use Rattle.answers.specs.AllOutlets.{lentAll};
 ghost use Rattle.answers.specs.Drawing.{drawingOf};
 ghost use Rattle.spelling.specs.Content.{content};
 ghost use Rattle.host.specs.Results.{nonZero, InNumbers, RecursionInC, StackInC, DrawingInC, ReadingInC};
-ghost use Rattle.host.specs.Results.{WritingInC};
+ghost use Rattle.host.specs.Results.{AllInC, PartInC, WritingInC};
 
 #[no_mangle]
 pub extern "C" fn jb_accumulate(
@@ -177,6 +178,49 @@ pub extern "C" fn jb_trace_by_recursion(
         starts,
     );
     hand_back(t, results)
+}
+
+#[no_mangle]
+pub extern "C" fn jb_trace_all(
+    rows: usize,
+    cols: usize,
+    codes: &[u8],
+    accumulation: &[u32],
+    outlets: &[u32],
+    subaccumulation: &mut [u32],
+    starts: &mut [u32],
+    counts: &mut [u32],
+    work: &mut [u32],
+    sums: &mut [u32; 2],
+) -> u32
+    ensures { λ r. ⌜ AllInC
+        (catchment rows cols (now (codes .entry)) (now (accumulation .entry)) (now (outlets .entry)))
+        (lentAll (now (subaccumulation .entry)) (now (starts .entry)) (now (counts .entry)) (now (work .entry)))
+        r (now (sums .exit))
+        (lentAll (now (subaccumulation .exit)) (now (starts .exit)) (now (counts .exit)) (now (work .exit))) ⌝ }
+{
+    let t = alloutlets::trace_all(
+        rows,
+        cols,
+        codes,
+        accumulation,
+        outlets,
+        subaccumulation,
+        starts,
+        counts,
+        work,
+    );
+    *sums = [t.visited, t.dropped];
+    t.number
+}
+
+// The part itself cannot be handed to C: where it begins and how many places it has stand for it.
+#[no_mangle]
+pub extern "C" fn jb_starts_of(starts: &[u32], counts: &[u32], choice: usize, part: &mut [usize; 2])
+    ensures { λ _. ⌜ PartInC (now (starts .entry)) (now (counts .entry)) choice (now (part .exit)) ⌝ }
+{
+    let p = listing::part_at(starts.len(), counts, choice);
+    *part = [p.begin, p.count];
 }
 
 #[no_mangle]

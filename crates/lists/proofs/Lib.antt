@@ -1,4 +1,5 @@
 pub mod Lists
+pub mod Sums
 pub mod Members
 pub mod Kept
 pub mod Overlaid

@@ -108,6 +108,10 @@ every-at P [] h j l = absurd (omega arith)
 every-at P (x ∷ xs) h zero l = h .0
 every-at P (x ∷ xs) h (suc j) l = every-at P xs (h .1) j (omega arith)
 
+pub every-placed : (P : ℕ → Type 0) (xs : List ℕ) → ((j : ℕ) → j < length xs → P (getD xs j 0)) → Every P xs
+every-placed P [] h = tt
+every-placed P (x ∷ xs) h = (h 0 (omega arith), every-placed P xs (λ j i. h (suc j) (omega arith)))
+
 pub sorted-at : (R : ℕ → ℕ → Type 0) (xs : List ℕ) → Sorted R xs → (i j : ℕ) → i < j → j < length xs
     → R (getD xs i 0) (getD xs j 0)
 sorted-at R [] h i j k l = absurd (omega arith)

@@ -1,9 +1,9 @@
--- What the checks 10 to 18 tell an engine, once the grid is filled.
+-- What the checks 10 to 17, and whatever follows them, tell an engine once the grid is filled.
 -- Assumes nothing.
 use mathlib.Core.Path.{_≡_, refl, sym, ap, _∙_, subst}
 use mathlib.Core.Bool.{true}
 use mathlib.Core.Logic.{inl, inr}
-use mathlib.Core.List.{List, [], _∷_}
+use mathlib.Core.List.{List, [], _∷_, _++_}
 use Prim.Native.Nat.{ℕ, _<_}
 use native.Mathlib.Omega.{arith}
 use lib.ListN.{length, getD}
@@ -13,22 +13,19 @@ use Rattle.ground.specs.Tables.{table1}
 use Rattle.ground.specs.Grid.{Grid, gridOf, cellCount, ground}
 use Rattle.ground.specs.Accumulation.{agrees, subaccumulation, subaccumulations}
 use Rattle.ground.proofs.Cells.{of-ours, ground-within}
-use Rattle.answers.specs.Checks.{firstFailed, check18}
+use Rattle.answers.specs.Checks.{Check, firstFailed, check18}
 use Rattle.answers.specs.Entries.{Catchment, placeChecks}
 use Rattle.checks.proofs.Passed.{Sized, sized, Listed, in-list}
 use Rattle.filling.proofs.Fronts.{filled-at}
-use Rattle.accumulation.proofs.Subaccumulated.{lengths, good}
+use Rattle.accumulation.proofs.Subaccumulated.{lengths, before, good}
 use Rattle.upstream.specs.Ready.{Ready}
 use Rattle.tracing.specs.declared.Prepared.{Prepared}
 use Rattle.tracing.specs.Preparing.{Chosen, Prepares}
 
-module _ (c : Catchment) (place : ℕ) (old : List ℕ) (ours : c .grid .table ≡ table1)
-    (passes : firstFailed (placeChecks c place (lengths c old)) ≡ 0) where
+module _ (c : Catchment) (old : List ℕ) (ours : c .grid .table ≡ table1) (rest : List Check)
+    (passes : firstFailed (before c old ++ rest) ≡ 0) where
   abbrev land : Grid
   land = c .grid
-
-  abbrev outlet : ℕ
-  outlet = getD (c .outlets) place 0
 
   made-of : (P : Grid → Type 0) → P land → P (gridOf (land .rows) (land .cols) (land .codes))
   made-of P = subst P (sym (of-ours land ours))
@@ -37,21 +34,18 @@ module _ (c : Catchment) (place : ℕ) (old : List ℕ) (ours : c .grid .table �
   sizes = sized land (lengths c old) _ 0 (inl (omega arith)) passes
 
   list : Listed land (c .accumulation) (c .outlets)
-  list = good c old (check18 (c .outlets) place ∷ []) passes
+  list = good c old rest passes
 
-  solid : place < length (c .outlets) → ground land outlet ≡ true
-  solid i = list .at-ground place i
+  pub chosen : (place : ℕ) → place < length (c .outlets)
+      → Chosen (land .rows) (land .cols) (land .codes) (c .outlets) place
+  chosen place i = record {
+    some-cols = sizes .some-cols;
+    in-list = i;
+    solid = made-of (λ g. ground g (getD (c .outlets) place 0) ≡ true) (list .at-ground place i);
+  }
 
-  pub chosen : Chosen (land .rows) (land .cols) (land .codes) (c .outlets) place
-  chosen =
-      let i = in-list c (lengths c old) place passes in
-      record { some-cols = sizes .some-cols; in-list = i; solid = made-of (λ g. ground g outlet ≡ true) (solid i) }
-
-  pub few : place < 256
-  few = omega (arith, chosen .in-list, list .few-outlets)
-
-  within : outlet < cellCount land
-  within = ground-within land outlet (solid (chosen .in-list))
+  within : (place : ℕ) → place < length (c .outlets) → getD (c .outlets) place 0 < cellCount land
+  within place i = ground-within land (getD (c .outlets) place 0) (list .at-ground place i)
 
   module _ {new : List ℕ} (filled : new ≡ overlaid (subaccumulations land (c .outlets)) old) where
     long : length new ≡ length old
@@ -70,12 +64,13 @@ module _ (c : Catchment) (place : ℕ) (old : List ℕ) (ours : c .grid .table �
       filled = made-of (λ g. (x : ℕ) → x < cellCount land → getD new x 0 ≡ subaccumulation g (c .outlets) x) at-cell;
     }
 
-    -- the outlet's own cells
-    pub in-grid : outlet < length new
-    in-grid = omega (arith, within, ready .has-subaccumulations)
+    -- an outlet's own cells
+    module _ (place : ℕ) (i : place < length (c .outlets)) where
+      pub in-grid : getD (c .outlets) place 0 < length new
+      in-grid = omega (arith, within place i, ready .has-subaccumulations)
 
-    pub cells : getD new outlet 0 ≡ subaccumulation land (c .outlets) outlet
-    cells = at-cell outlet within
+      pub cells : getD new (getD (c .outlets) place 0) 0 ≡ subaccumulation land (c .outlets) (getD (c .outlets) place 0)
+      cells = at-cell (getD (c .outlets) place 0) (within place i)
 
 -- the same, of what was prepared
 module _ {c : Catchment} (ours : c .grid .table ≡ table1) {place : ℕ} {old : List ℕ} {p : Prepared} {new : List ℕ}
@@ -84,7 +79,8 @@ module _ {c : Catchment} (ours : c .grid .table ≡ table1) {place : ℕ} {old :
   passed = sym (prep .is-number) ∙ z
 
   pub prepared-ready : Ready (c .grid .rows) (c .grid .cols) (c .grid .codes) (c .outlets) new
-  prepared-ready = ready c place old ours passed (prep .filled z)
+  prepared-ready = ready c old ours (check18 (c .outlets) place ∷ []) passed (prep .filled z)
 
   pub prepared-chosen : Chosen (c .grid .rows) (c .grid .cols) (c .grid .codes) (c .outlets) place
-  prepared-chosen = chosen c place old ours passed
+  prepared-chosen = chosen c old ours (check18 (c .outlets) place ∷ []) passed place
+      (in-list c (lengths c old) place passed)

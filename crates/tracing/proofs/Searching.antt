@@ -12,7 +12,7 @@ use Rattle.lengths.specs.declared.Length.{Length}
 use Rattle.ground.specs.Grid.{Grid, gridOf, ground}
 use Rattle.ground.specs.Accumulation.{subaccumulation}
 use Rattle.ground.proofs.Cells.{ground-within}
-use Rattle.search.specs.Tracing.{Tracing, firstLength, pathCount, tracing, tracingBy}
+use Rattle.search.specs.Tracing.{Tracing, firstLength, pathCount, startCells, tracing, tracingBy}
 use Rattle.search.specs.Demand.{anyCell, Demand3}
 use Rattle.search.proofs.Demand3.{demand3}
 use Rattle.progress.specs.declared.Progress.{Progress}
@@ -24,7 +24,7 @@ use Rattle.answers.specs.declared.Traced.{Traced}
 use Rattle.lists.proofs.Members.{member-at}
 use Rattle.lists.proofs.Overlaid.{overlaid-length}
 use Rattle.listing.specs.Answering.{answerWith}
-use Rattle.tracing.specs.Answering.{cellsOf, Told, Lists}
+use Rattle.tracing.specs.Answering.{cellsOf, Counted, Lists}
 use Rattle.tracing.specs.Preparing.{Chosen}
 
 -- starts of one length: their cells, and the length of the first
@@ -98,27 +98,29 @@ module _ {rows cols : ℕ} {codes outlets subaccumulations : List ℕ}
         (chosen .solid) dropping in
         omega (arith, subst (λ (t : Tracing). 0 < pathCount t) found (d .not-none), count)
 
-    pub told : Told (tracing dropping land outlets outlet) end p new
-    told = subst (λ (t : Tracing). Told t end p new) (sym found) (record {
+    pub counted : Counted (tracing dropping land outlets outlet) p
+    counted = subst (λ (t : Tracing). Counted t p) (sym found) (record {
       longest = sym (first-of (p .greatest) (kept new end (p .paths)) (omega (arith, some-path, many)));
       count = sym count;
       visited = refl;
       dropped = refl;
-      starts = sym (cells-of (p .greatest) (kept new end (p .paths)));
     })
 
--- so are the answer and the list
-pub lists-told : {t : Tracing} {end : ℕ} {p : Progress} {new : List ℕ} → Told t end p new
-    → {old list : List ℕ} {r : Traced}
+    pub starts-are : kept new end (p .paths) ≡ startCells (tracing dropping land outlets outlet)
+    starts-are = subst (λ (t : Tracing). kept new end (p .paths) ≡ startCells t) (sym found)
+        (sym (cells-of (p .greatest) (kept new end (p .paths))))
+
+-- so is the answer
+pub answers-counted : {t : Tracing} {p : Progress} → Counted t p → {old list : List ℕ} {r : Traced}
     → r ≡ answerWith (p .greatest) (p .paths) (p .visited) (p .dropped) (length list)
-    → list ≡ overlaid (kept new end (p .paths)) old → Lists t old r list
-lists-told {t} {end} {p} {new} f {old} {list} {r} e l = record {
+    → list ≡ overlaid (startCells t) old → Lists t old r list
+answers-counted {t} {p} f {old} {list} {r} e l = record {
   answers = e ∙ rw (
     f .longest,
     f .count,
     f .visited,
     f .dropped,
-    ap length l ∙ overlaid-length (kept new end (p .paths)) old,
+    ap length l ∙ overlaid-length (startCells t) old,
   );
-  lists = l ∙ ap (λ (cs : List ℕ). overlaid cs old) (f .starts);
+  lists = l;
 }

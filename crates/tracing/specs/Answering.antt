@@ -27,20 +27,26 @@ module _ (rows cols : ℕ) (codes outlets : List ℕ) (place : ℕ) where
   abbrev pub tracingAt : Bool → Tracing
   tracingAt dropping = tracing dropping (gridOf rows cols codes) outlets (getD outlets place 0)
 
--- a search ended with what the tracing tells, and its starts before an end
-pub record Told (t : Tracing) (end : ℕ) (r : Progress) (new : List ℕ) : Type 0 where
+-- a search ended with what the tracing tells
+pub record Counted (t : Tracing) (r : Progress) : Type 0 where
   pub longest : r .greatest ≡ longestLength t
   pub count : r .paths ≡ pathCount t
   pub visited : r .visited ≡ t .visited
   pub dropped : r .dropped ≡ t .dropped
-  pub starts : kept new end (r .paths) ≡ startCells t
 
--- in the working numbers of so many cells
-pub record ToldWithin (t : Tracing) (cells : ℕ) (old : List ℕ) (r : Progress) (new : List ℕ) : Type 0 where
-  pub told : Told t (numbersEach * cells) r new
+-- in the working numbers of so many cells, with its starts before their end
+pub record Told (t : Tracing) (cells : ℕ) (old : List ℕ) (r : Progress) (new : List ℕ) : Type 0 where
+  pub counted : Counted t r
+  pub starts : kept new (numbersEach * cells) (r .paths) ≡ startCells t
   pub all-cells : r .visited + r .dropped ≡ cells
   pub few-paths : r .paths ≤ r .visited
   pub only : Kept (numbersEach * cells) old new
+
+-- and these are listed
+pub record ToldAndLists (t : Tracing) (cells : ℕ) (old work : List ℕ) (r : Progress) (new space : List ℕ) : Type 0 where
+  pub counted : Counted t r
+  pub lists : new ≡ overlaid (startCells t) old
+  pub only : Kept (numbersEach * cells) work space
 
 -- an engine has answered, and listed the starts
 pub record Lists (t : Tracing) (old : List ℕ) (r : Traced) (new : List ℕ) : Type 0 where

@@ -10,13 +10,14 @@ use lists::clear;
 use lists::index_of;
 use progress::Progress;
 use stack::NUMBERS_EACH;
+ghost use mathlib.Core.Path.{_≡_};
 ghost use Prim.Native.Nat.{_*_, _≤_};
 ghost use lib.ListN.{length};
 ghost use Rattle.search.specs.Tracing.{numbersEach};
 ghost use Rattle.upstream.specs.Ready.{Ready};
 ghost use Rattle.answers.specs.Entries.{catchment};
 ghost use Rattle.answers.specs.Tracings.{callOf, lent, TracesByRecursion, TracesByStack};
-ghost use Rattle.tracing.specs.Answering.{cellsOf, tracingAt, ToldWithin, Lists, ListsAndClears};
+ghost use Rattle.tracing.specs.Answering.{cellsOf, tracingAt, Told, ToldAndLists, Lists, ListsAndClears};
 ghost use Rattle.tracing.specs.Preparing.{Chosen, Prepares};
 
 // Traces an outlet by recursion, in a grid that holds the subaccumulation. The starts wait in an array, since those
@@ -69,7 +70,7 @@ pub fn search_at(
     requires { ⌜ Ready rows cols (now codes) (now outlets) (now subaccumulation) ⌝ }
     requires { ⌜ Chosen rows cols (now codes) (now outlets) place ⌝ }
     requires { ⌜ numbersEach * cellsOf rows cols (now codes) (now outlets) place ≤ length (now work) ⌝ }
-    ensures { λ r. ⌜ ToldWithin (tracingAt rows cols (now (codes .entry)) (now (outlets .entry)) place dropping)
+    ensures { λ r. ⌜ Told (tracingAt rows cols (now (codes .entry)) (now (outlets .entry)) place dropping)
         (cellsOf rows cols (now (codes .entry)) (now (outlets .entry)) place) (now (work .entry)) r
         (now (work .exit)) ⌝ }
 {
@@ -87,8 +88,8 @@ pub fn search_at(
     )
 }
 
-// Traces an outlet from pending cells. The starts are listed, and the working numbers cleared.
-fn by_stack(
+// The same, and the starts are listed.
+pub fn list_at(
     rows: usize,
     cols: usize,
     codes: &[u8],
@@ -98,12 +99,12 @@ fn by_stack(
     place: usize,
     starts: &mut [u32],
     work: &mut [u32],
-) -> Traced
+) -> Progress
     requires { ⌜ Ready rows cols (now codes) (now outlets) (now subaccumulation) ⌝ }
     requires { ⌜ Chosen rows cols (now codes) (now outlets) place ⌝ }
     requires { ⌜ numbersEach * cellsOf rows cols (now codes) (now outlets) place ≤ length (now work) ⌝ }
-    ensures { λ r. ⌜ ListsAndClears (tracingAt rows cols (now (codes .entry)) (now (outlets .entry)) place dropping)
-        (now (starts .entry)) (cellsOf rows cols (now (codes .entry)) (now (outlets .entry)) place)
+    ensures { λ r. ⌜ ToldAndLists (tracingAt rows cols (now (codes .entry)) (now (outlets .entry)) place dropping)
+        (cellsOf rows cols (now (codes .entry)) (now (outlets .entry)) place) (now (starts .entry))
         (now (work .entry)) r (now (starts .exit)) (now (work .exit)) ⌝ }
 {
     let at = index_of(outlets[place]);
@@ -119,6 +120,42 @@ fn by_stack(
         work,
     );
     list_starts(work, end, p.paths, starts);
+    p
+}
+
+// Traces an outlet of so many cells from pending cells. The working numbers are cleared.
+fn by_stack(
+    rows: usize,
+    cols: usize,
+    codes: &[u8],
+    outlets: &[u32],
+    subaccumulation: &[u32],
+    dropping: bool,
+    place: usize,
+    cells: u32,
+    starts: &mut [u32],
+    work: &mut [u32],
+) -> Traced
+    requires { ⌜ Ready rows cols (now codes) (now outlets) (now subaccumulation) ⌝ }
+    requires { ⌜ Chosen rows cols (now codes) (now outlets) place ⌝ }
+    requires { ⌜ (cells ≡ cellsOf rows cols (now codes) (now outlets) place)
+        × (numbersEach * cells ≤ length (now work)) ⌝ }
+    ensures { λ r. ⌜ ListsAndClears (tracingAt rows cols (now (codes .entry)) (now (outlets .entry)) place dropping)
+        (now (starts .entry)) (cellsOf rows cols (now (codes .entry)) (now (outlets .entry)) place)
+        (now (work .entry)) r (now (starts .exit)) (now (work .exit)) ⌝ }
+{
+    let p = list_at(
+        rows,
+        cols,
+        codes,
+        outlets,
+        subaccumulation,
+        dropping,
+        place,
+        starts,
+        work,
+    );
+    let end = NUMBERS_EACH * index_of(cells);
     clear(end, work);
     answer_for(p, starts.len())
 }
@@ -248,6 +285,7 @@ pub fn trace_by_stack(
         subaccumulation,
         dropping,
         place,
+        cells,
         starts,
         work,
     )

@@ -1,12 +1,16 @@
 -- `tracing::by_recursion` meets its contract.
 -- Assumes nothing.
-use mathlib.Core.Path.{refl}
+use mathlib.Core.Path.{refl, ap, _∙_}
+use mathlib.Core.List.{List}
+use Prim.Native.Nat.{ℕ}
 use native.Mathlib.Omega.{arith}
 use lib.ListN.{getD}
 use borrow.Author.Needs.{needs}
+use Rattle.lists.specs.Slices.{overlaid}
 use Rattle.ground.specs.Grid.{gridOf}
 use Rattle.upstream.specs.Ready.{Searched}
-use Rattle.tracing.proofs.Searching.{at-outlet, cells-there, searched-there, told, lists-told}
+use Rattle.tracing.proofs.Searching.{at-outlet, cells-there, searched-there, counted, starts-are}
+use Rattle.tracing.proofs.Searching.{answers-counted}
 use Rattle.tracing.proofs.by_recursion.Statement.{statement}
 use Rattle.tracing.proofs.by_recursion.Tie as tie
 
@@ -59,7 +63,9 @@ returns c =
     let l = c .before .before .before in
     let t = l .before .before .before in
     let s = t .before .before .before .before .before .before .before .before in
-    lists-told (told (s .pre .0) (s .pre .1 .0) (searched t)) (c .answer-for .ensures) (l .list-starts .ensures)
+    let q = searched t in
+    answers-counted (counted (s .pre .0) (s .pre .1 .0) q) (c .answer-for .ensures)
+    (l .list-starts .ensures ∙ ap (λ (cs : List ℕ). overlaid cs (s .args .starts .now)) (starts-are (s .pre .0) (s .pre .1 .0) q))
 
 pub by-recursion-spec : {M : Type 1} → statement M
 by-recursion-spec =

@@ -2,7 +2,7 @@
 -- Assumes nothing.
 use native.Mathlib.Omega.{arith}
 use borrow.Author.Needs.{needs}
-use Rattle.tracing.proofs.Searching.{at-outlet, cells-there, searched-within, told}
+use Rattle.tracing.proofs.Searching.{at-outlet, cells-there, searched-within, counted, starts-are}
 use Rattle.tracing.proofs.search_at.Statement.{statement}
 use Rattle.tracing.proofs.search_at.Tie as tie
 
@@ -36,7 +36,8 @@ returns c =
     let e = t .before .before .split-number .ensures in
     let q = searched-within (s .pre .0) (s .pre .1 .0) e (t .trace .ensures .searched) in
     record {
-      told = told (s .pre .0) (s .pre .1 .0) q;
+      counted = counted (s .pre .0) (s .pre .1 .0) q;
+      starts = starts-are (s .pre .0) (s .pre .1 .0) q;
       all-cells = q .all-cells;
       few-paths = q .few-paths;
       only = record {

@@ -1,0 +1,61 @@
+-- What the two passes over the outlets ask and leave: the first counts, the second lists.
+-- Assumes nothing.
+use mathlib.Core.Path.{_≡_}
+use mathlib.Core.Bool.{cond}
+use mathlib.Core.List.{List, map}
+use Prim.Native.Nat.{ℕ, _*_, _≤_, _<_, _^_}
+use lib.ListN.{length}
+use lib.Dec.{leb}
+use Rattle.lists.specs.Lists.{sumOf}
+use Rattle.lists.specs.Slices.{overlaid, zeros, Kept}
+use Rattle.ground.specs.Grid.{Grid, gridOf}
+use Rattle.ground.specs.Accumulation.{subaccumulation}
+use Rattle.search.specs.Tracing.{numbersEach}
+use Rattle.upstream.specs.Ready.{Ready}
+use Rattle.answers.specs.declared.TracedAll.{TracedAll}
+use Rattle.answers.specs.AllOutlets.{mostCells, allStarts, pathCounts, allVisited, allDropped, tellsAll}
+use Rattle.tracing.specs.Preparing.{Chosen}
+use Rattle.alloutlets.specs.declared.Sums.{Sums}
+
+-- every outlet can be searched: the grid holds the subaccumulation, each place of the list asks for a cell of ground,
+-- outlets and the cells of all together are few, and the working space has room for those of any one
+pub record Searchable (rows cols : ℕ) (codes outlets subaccumulations work : List ℕ) : Type 0 where
+  pub ready : Ready rows cols codes outlets subaccumulations
+  pub chosen : (j : ℕ) → j < length outlets → Chosen rows cols codes outlets j
+  pub few-outlets : length outlets ≤ 256
+  pub few-cells : sumOf (map (subaccumulation (gridOf rows cols codes) outlets) outlets) ≤ 2 ^ 24
+  pub room : numbersEach * mostCells (gridOf rows cols codes) outlets ≤ length work
+
+module _ (g : Grid) (outlets : List ℕ) where
+  -- the sums over all outlets
+  abbrev pub sumsOf : Sums
+  sumsOf = record {
+    paths = sumOf (pathCounts g outlets);
+    visited = allVisited g outlets;
+    dropped = allDropped g outlets;
+  }
+
+  -- the searches change the working numbers that 20 asks for, and no others
+  abbrev pub WorkKept : List ℕ → List ℕ → Type 0
+  WorkKept = Kept (numbersEach * mostCells g outlets)
+
+  pub record CountsAll (work : List ℕ) (r : Sums) (space : List ℕ) : Type 0 where
+    pub counts : r ≡ sumsOf
+    pub kept : WorkKept work space
+
+  pub record ListsAll (starts counts work starts′ counts′ space : List ℕ) : Type 0 where
+    pub lists : starts′ ≡ overlaid (allStarts g outlets) starts
+    pub counted : counts′ ≡ overlaid (pathCounts g outlets) counts
+    pub kept : WorkKept work space
+
+  -- 0 or 21, by the room for the starts of all
+  abbrev pub numberFor : ℕ → ℕ
+  numberFor room = cond (leb (sumOf (pathCounts g outlets)) room) 0 21
+
+  pub record SearchesAll (starts counts work : List ℕ) (r : TracedAll) (starts′ counts′ space : List ℕ) : Type 0 where
+    pub answers : r ≡ tellsAll g outlets (numberFor (length starts))
+    pub lists : starts′ ≡ cond (leb (sumOf (pathCounts g outlets)) (length starts)) (overlaid (allStarts g outlets) starts)
+        starts
+    pub counted : counts′ ≡ cond (leb (sumOf (pathCounts g outlets)) (length starts)) (overlaid (pathCounts g outlets) counts)
+        counts
+    pub clears : space ≡ overlaid (zeros (numbersEach * mostCells g outlets)) work

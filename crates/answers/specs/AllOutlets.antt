@@ -1,0 +1,113 @@
+-- What tracing all outlets in one call answers, what it leaves in the lent grid, lists and working space, and the part
+-- of the list that shows one outlet's starts.
+-- Assumes nothing.
+use mathlib.Core.Path.{_≡_}
+use mathlib.Core.Bool.{true, cond, _&&_}
+use mathlib.Core.List.{List, [], _∷_, _++_, map}
+use Prim.Native.Nat.{ℕ, _+_, _*_, _<_}
+use lib.ListN.{length, getD, take, drop}
+use lib.Dec.{eqb, leb, ltb}
+use Rattle.lists.specs.Lists.{member, sumOf, greatestOf, joined}
+use Rattle.lists.specs.Slices.{overlaid, zeros}
+use Rattle.ground.specs.Grid.{Grid}
+use Rattle.ground.specs.Accumulation.{subaccumulation, subaccumulations}
+use Rattle.search.specs.Tracing.{Tracing, pathCount, startCells, tracing, numbersEach}
+use Rattle.answers.specs.declared.TracedAll.{TracedAll}
+use Rattle.answers.specs.Checks.{firstFailed, check20, check21, check23}
+use Rattle.answers.specs.Entries.{Catchment, outletChecks}
+
+-- what the call is lent to fill: the subaccumulation grid, the list of starts, the list of counts, the working space
+pub record LentAll : Type 0 where
+  pub subaccumulation : List ℕ
+  pub starts : List ℕ
+  pub counts : List ℕ
+  pub work : List ℕ
+
+abbrev pub lentAll : List ℕ → List ℕ → List ℕ → List ℕ → LentAll
+lentAll subaccumulation starts counts work =
+    record { subaccumulation = subaccumulation; starts = starts; counts = counts; work = work }
+
+abbrev pub tracedAll : ℕ → ℕ → ℕ → TracedAll
+tracedAll number visited dropped = record { number = number; visited = visited; dropped = dropped }
+
+module _ (g : Grid) (outlets : List ℕ) where
+  -- what the search with dropping tells of an outlet, as in a call for it alone
+  abbrev pub tracingOf : ℕ → Tracing
+  tracingOf = tracing true g outlets
+
+  -- the most cells that an outlet of the list has
+  abbrev pub mostCells : ℕ
+  mostCells = greatestOf (map (subaccumulation g outlets) outlets)
+
+  -- in list order, the starts of all outlets run together, and how many each has
+  abbrev pub allStarts : List ℕ
+  allStarts = joined (map (λ o. startCells (tracingOf o)) outlets)
+
+  abbrev pub pathCounts : List ℕ
+  pathCounts = map (λ o. pathCount (tracingOf o)) outlets
+
+  -- the sums of the cells visited, and of those dropped
+  abbrev pub allVisited : ℕ
+  allVisited = sumOf (map (λ o. tracingOf o .visited) outlets)
+
+  abbrev pub allDropped : ℕ
+  allDropped = sumOf (map (λ o. tracingOf o .dropped) outlets)
+
+-- TRACE ALL: 10, 11 of three grids, 12, 14 to 17, 20 by the most cells, 23 by the counts, 21 by all paths together
+unfoldable pub traceAllNumber : Catchment → LentAll → ℕ
+traceAllNumber c old = firstFailed (
+    outletChecks c (length (c .accumulation) ∷ length (old .subaccumulation) ∷ [])
+    ++ (check20 (mostCells (c .grid) (c .outlets)) (old .work)
+    ∷ check23 (pathCounts (c .grid) (c .outlets)) (old .counts)
+    ∷ check21 (sumOf (pathCounts (c .grid) (c .outlets))) (old .starts) ∷ [])
+    )
+
+module _ (g : Grid) (outlets : List ℕ) where
+  -- the sums are told with 0 and 21, and are 0 with every other number
+  unfoldable pub tellsAll : ℕ → TracedAll
+  tellsAll number =
+      cond (member number (0 ∷ 21 ∷ [])) (tracedAll number (allVisited g outlets) (allDropped g outlets))
+      (tracedAll number 0 0)
+
+  -- what is left. The grid is filled once 17 is past; the working numbers that 20 asks for are 0 after the searches; both
+  -- lists are written on 0 alone
+  unfoldable pub leavesAll : ℕ → LentAll → LentAll
+  leavesAll number old =
+      let filled = overlaid (subaccumulations g outlets) (old .subaccumulation) in
+      let cleared = overlaid (zeros (numbersEach * mostCells g outlets)) (old .work) in
+      cond (eqb number 0)
+      (lentAll filled (overlaid (allStarts g outlets) (old .starts)) (overlaid (pathCounts g outlets) (old .counts)) cleared)
+      (cond (eqb number 21) (lentAll filled (old .starts) (old .counts) cleared)
+      (cond (member number (20 ∷ 23 ∷ [])) (lentAll filled (old .starts) (old .counts) (old .work))
+      old))
+
+pub record TracesAll (c : Catchment) (old : LentAll) (r : TracedAll) (new : LentAll) : Type 0 where
+  pub answers : r ≡ tellsAll (c .grid) (c .outlets) (traceAllNumber c old)
+  pub leaves : new ≡ leavesAll (c .grid) (c .outlets) (traceAllNumber c old) old
+
+-- ---- THE STARTS OF ONE OUTLET, as a part of the list. The counts are lent numbers and may be any
+
+module _ (counts : List ℕ) (choice : ℕ) where
+  -- the counts before its own
+  abbrev pub startsBefore : ℕ
+  startsBefore = sumOf (take choice counts)
+
+  -- how many starts the part shows of a list of n: its own count, but none where the choice is outside the count list or
+  -- the counts up to and with its own run past the starts
+  unfoldable pub partCount : ℕ → ℕ
+  partCount n =
+      cond (ltb choice (length counts) && leb (startsBefore + getD counts choice 0) n) (getD counts choice 0) 0
+
+  -- where it begins in the list; 0 is told of an empty part
+  unfoldable pub partBegin : ℕ → ℕ
+  partBegin n = cond (eqb (partCount n) 0) 0 startsBefore
+
+abbrev pub startsPart : List ℕ → List ℕ → ℕ → List ℕ
+startsPart starts counts choice = take (partCount counts choice (length starts)) (drop (startsBefore counts choice) starts)
+
+-- what is handed back of a list that lies at a block of memory and an offset of bytes: the part holds the outlet's starts
+-- and, where there are any, begins at the first of them. Where an empty part begins is left open
+pub record ShowsStarts (starts : List ℕ) (at : ℕ × ℕ) (counts : List ℕ) (choice : ℕ) (part : List ℕ) (begin : ℕ × ℕ)
+    : Type 0 where
+  pub holds : part ≡ startsPart starts counts choice
+  pub begins : 0 < length part → begin ≡ (at .0, at .1 + 4 * startsBefore counts choice)
