@@ -53,6 +53,19 @@ int main(void) {
                                     CELLS, drawn));
     print("path", path, drawn[0]);
 
+    /* Two outlets by one call: the upper one's cells are its own. The starts of each are a part of the list. */
+    const uint32_t both[2] = {1, 2};
+    uint32_t counts[2], sums[2];
+    expect_accepted("trace all", jb_trace_all(ROWS, COLS, codes, CELLS, accumulation, CELLS, both, 2, subaccumulation,
+                                              CELLS, starts, CELLS, counts, 2, work, 3 * CELLS, sums));
+    printf("both outlets visited %u dropped %u\n", (unsigned)sums[0], (unsigned)sums[1]);
+    for (size_t choice = 0; choice < 2; choice++) {
+        size_t part[2];
+        jb_starts_of(starts, CELLS, counts, 2, choice, part);
+        printf("outlet %u ", (unsigned)both[choice]);
+        print("starts", starts + part[0], part[1]);
+    }
+
     /* A refusal: the same ground with an accumulation that does not agree. */
     accumulation[3] = 2;
     uint32_t number = jb_check_accumulation(ROWS, COLS, codes, CELLS, accumulation, CELLS);

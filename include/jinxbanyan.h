@@ -1,9 +1,10 @@
 /* Jinxbanyan for C: flow paths on a D8 grid.
 
-   Each function returns the refusal number: 0 is acceptance. A slice is a pointer and a count of elements; slices of one
-   call must not overlap, and a pointer must not be null even where the count is 0. Refusals change nothing lent, but where
-   a comment says otherwise, and places beyond those an answer needs keep their contents. A place for results (results,
-   drawn, shape, size) is no such slice: it is written on every call, with values handed back.
+   Each function but jb_starts_of, which refuses no call, returns the refusal number: 0 is acceptance. A slice is a pointer
+   and a count of elements; slices of one call must not overlap, and a pointer must not be null even where the count is 0.
+   Refusals change nothing lent, but where a comment says otherwise, and places beyond those an answer needs keep their
+   contents. A place for results (results, sums, part, drawn, shape, size) is no such slice: it is written on every call,
+   with values handed back.
 
    10 rows or columns not 1 to 4,096       18 the place is beyond the list of outlets
    11 a lent grid too short                19 more than 4,096 cells, by recursion
@@ -82,6 +83,26 @@ uint32_t jb_trace_by_recursion(size_t rows, size_t cols, const uint8_t *codes, s
                                size_t outlets_count, size_t place, uint32_t dropping, uint32_t *subaccumulation,
                                size_t subaccumulation_count, uint32_t *starts, size_t starts_count,
                                uint32_t results[5]);
+
+/* 10, 11, 12, 14 to 17, 20, 23, 21. Traces all longest paths to every outlet of the list, in its order, as
+   jb_trace_by_stack does with dropping, and tests the accumulation once for all. Writes the subaccumulation, the starts of
+   all outlets run together, and how many each outlet has, a count for each: jb_starts_of finds those of one. The working
+   space takes three numbers for each cell of the listed outlet that has the most. sums: the cells visited and those
+   dropped, over all outlets.
+   23 is for fewer count places than outlets, 21 for fewer list places than all outlets have starts. 20 and 23 leave the
+   subaccumulation written. 21 leaves it too and tells the sums, but the list and the counts stay as they were; any other
+   refusal tells two zeros. On acceptance and 21 the working numbers that are asked for are 0. */
+uint32_t jb_trace_all(size_t rows, size_t cols, const uint8_t *codes, size_t codes_count, const uint32_t *accumulation,
+                      size_t accumulation_count, const uint32_t *outlets, size_t outlets_count,
+                      uint32_t *subaccumulation, size_t subaccumulation_count, uint32_t *starts, size_t starts_count,
+                      uint32_t *counts, size_t counts_count, uint32_t *work, size_t work_count, uint32_t sums[2]);
+
+/* The part of a list of starts that is one outlet's, by the counts that jb_trace_all wrote. choice is the outlet's place in
+   the list of outlets, counted from 0. part: where it begins in starts, and how many it has. Both are 0 where it is empty:
+   where choice is not below counts_count, where its own count is 0, and where the counts up to and with its own add up to
+   more than starts_count. Counts may be any numbers, and as many as you like. Writes nothing else. */
+void jb_starts_of(const uint32_t *starts, size_t starts_count, const uint32_t *counts, size_t counts_count, size_t choice,
+                  size_t part[2]);
 
 /* 10, 11, 12, 14 to 18, 22, 23. Writes the cells of a path, from its start to the outlet; drawn is how many, 0 on refusal. */
 uint32_t jb_draw(size_t rows, size_t cols, const uint8_t *codes, size_t codes_count, const uint32_t *accumulation,

@@ -104,6 +104,35 @@ extern "C" {
         results: *mut [u32; 5],
     ) -> u32;
 
+    pub fn jb_trace_all(
+        rows: usize,
+        cols: usize,
+        codes: *const u8,
+        codes_count: usize,
+        accumulation: *const u32,
+        accumulation_count: usize,
+        outlets: *const u32,
+        outlets_count: usize,
+        subaccumulation: *mut u32,
+        subaccumulation_count: usize,
+        starts: *mut u32,
+        starts_count: usize,
+        counts: *mut u32,
+        counts_count: usize,
+        work: *mut u32,
+        work_count: usize,
+        sums: *mut [u32; 2],
+    ) -> u32;
+
+    pub fn jb_starts_of(
+        starts: *const u32,
+        starts_count: usize,
+        counts: *const u32,
+        counts_count: usize,
+        choice: usize,
+        part: *mut [usize; 2],
+    );
+
     pub fn jb_draw(
         rows: usize,
         cols: usize,

@@ -6,7 +6,8 @@ use std::fmt;
 const HEADER: &str = include_str!("../../include/jinxbanyan.h");
 const DECLARED: &str = include_str!("../src/declared.rs");
 
-/// A name with its type, in Rust's words. A function's own type is what it returns.
+/// A name with its type, in Rust's words. A function's own type is what it returns, `()` where it
+/// returns nothing.
 #[derive(PartialEq)]
 struct Named {
     name: String,
@@ -69,6 +70,7 @@ fn in_c(text: &str) -> Named {
         "size_t" => "usize",
         "uint32_t" => "u32",
         "uint8_t" => "u8",
+        "void" => "()",
         _ => panic!("a type that Rust has no name for here: {text}"),
     };
     if let Some(name) = name.strip_prefix('*') {
@@ -86,18 +88,19 @@ fn in_rust(text: &str) -> Vec<Function> {
     let text = without(text, "//", "\n");
     let text = text.trim().strip_prefix("extern \"C\" {").expect("one block of declarations");
     let text = text.strip_suffix('}').expect("the block's end");
-    functions(text, |before, arguments, after| Function {
-        itself: named(
-            before.strip_prefix("pub fn ").expect(before),
-            after.trim().strip_prefix("-> ").expect(after).to_string(),
-        ),
-        arguments: arguments
-            .into_iter()
-            .map(|argument| {
-                let (name, kind) = argument.split_once(':').expect(argument);
-                named(name, kind.trim().to_string())
-            })
-            .collect(),
+    functions(text, |before, arguments, after| {
+        let returned = match after.trim() {
+            "" => "()",
+            after => after.strip_prefix("-> ").expect(after),
+        };
+        let argument = |argument: &str| {
+            let (name, kind) = argument.split_once(':').expect(argument);
+            named(name, kind.trim().to_string())
+        };
+        Function {
+            itself: named(before.strip_prefix("pub fn ").expect(before), returned.to_string()),
+            arguments: arguments.into_iter().map(argument).collect(),
+        }
     })
 }
 
@@ -136,7 +139,7 @@ fn difference(header: &[Function], declared: &[Function]) -> Option<String> {
 fn header_and_declarations_are_alike() {
     let (header, declared) = (in_header(HEADER), in_rust(DECLARED));
     assert_eq!(difference(&header, &declared), None);
-    assert_eq!(header.len(), 10);
+    assert_eq!(header.len(), 12);
 }
 
 /// The difference that a change of the header makes.
@@ -173,6 +176,16 @@ fn each_change_of_an_argument_is_told() {
             ("uint32_t results[5]", "uint32_t results[6]"),
             "jb_trace_by_stack, argument 17: the header has results: *mut [u32; 6], \
              declared is results: *mut [u32; 5]",
+        ),
+        (
+            ("uint32_t sums[2]", "uint32_t sums[3]"),
+            "jb_trace_all, argument 17: the header has sums: *mut [u32; 3], \
+             declared is sums: *mut [u32; 2]",
+        ),
+        (
+            ("size_t part[2]", "uint32_t part[2]"),
+            "jb_starts_of, argument 6: the header has part: *mut [u32; 2], \
+             declared is part: *mut [usize; 2]",
         ),
         (
             ("size_t up_straight_count, ", ""),
@@ -215,19 +228,23 @@ fn each_change_of_a_function_is_told() {
     let changes = [
         (
             (draw, String::new()),
-            "function 8: the header has jb_read_sheet: u32, declared is jb_draw: u32",
+            "function 10: the header has jb_read_sheet: u32, declared is jb_draw: u32",
         ),
         (
             (write, String::new()),
-            "function 10: the header has nothing, declared is jb_write_sheet: u32",
+            "function 12: the header has nothing, declared is jb_write_sheet: u32",
         ),
         (
             (write, format!("{write}\nuint32_t jb_more(size_t rows);")),
-            "function 11: the header has jb_more: u32, declared is nothing",
+            "function 13: the header has jb_more: u32, declared is nothing",
         ),
         (
             ("uint32_t jb_draw", "size_t jb_draw".to_string()),
-            "function 8: the header has jb_draw: usize, declared is jb_draw: u32",
+            "function 10: the header has jb_draw: usize, declared is jb_draw: u32",
+        ),
+        (
+            ("void jb_starts_of", "uint32_t jb_starts_of".to_string()),
+            "function 9: the header has jb_starts_of: u32, declared is jb_starts_of: ()",
         ),
         (
             ("jb_check_accumulation", "jb_check".to_string()),
