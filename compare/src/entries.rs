@@ -5,6 +5,7 @@
 //! nothing lent unless the entry says so, and places beyond those an answer
 //! needs always keep their contents.
 
+mod all_outlets;
 mod tracing;
 
 use crate::flow_lengths::FlowLengths;
@@ -13,6 +14,7 @@ use crate::subwatershed::Division;
 use crate::tables::Table;
 use crate::{check, Refusal};
 
+pub use all_outlets::{starts_of, trace_all, TracingAll};
 pub use tracing::{trace_by_recursion, trace_by_stack, Kind, Tracing, MOST_BY_RECURSION};
 
 /// Grid entries take sides of 1 to this many cells.

@@ -1,6 +1,8 @@
 //! Outlets and what lies above them: subaccumulation, subwatersheds, the
 //! longest walks and the order of their starts.
 
+use std::collections::HashMap;
+
 use crate::ground::{Ground, Step};
 use crate::lengths::Length;
 
@@ -26,6 +28,24 @@ pub struct Longest {
     pub length: Length,
     /// All cells whose walk has that length, in order.
     pub starts: Vec<u32>,
+}
+
+impl Longest {
+    /// Before any walk is known.
+    fn of_none() -> Longest {
+        Longest { length: Length::ZERO, starts: Vec::new() }
+    }
+
+    /// One more walk is known.
+    fn meet(&mut self, cell: usize, length: Length) {
+        if length > self.length {
+            self.length = length;
+            self.starts.clear();
+        }
+        if length == self.length {
+            self.starts.push(cell as u32);
+        }
+    }
 }
 
 impl<'a> Division<'a> {
@@ -93,24 +113,32 @@ impl<'a> Division<'a> {
     /// walked from, no length is greater than theirs, and all of them are
     /// listed. Two are ordered where their routes, read upward, part.
     pub fn longest(&self, outlet: usize) -> Longest {
-        let mut length = Length::ZERO;
-        let mut starts = Vec::new();
+        let mut longest = Longest::of_none();
         for cell in self.ground.solid() {
             match self.meeting(cell) {
-                Some(meeting) if meeting.outlet == outlet => {
-                    if meeting.length > length {
-                        length = meeting.length;
-                        starts.clear();
-                    }
-                    if meeting.length == length {
-                        starts.push(cell as u32);
-                    }
-                }
+                Some(meeting) if meeting.outlet == outlet => longest.meet(cell, meeting.length),
                 _ => {}
             }
         }
-        starts.sort_by_cached_key(|&start| self.route_upward(start as usize, outlet));
-        Longest { length, starts }
+        self.in_order(longest, outlet)
+    }
+
+    /// The same for each of the outlets, with a single walk from each cell: it
+    /// counts for the outlet that it meets.
+    pub fn longest_of_each(&self, outlets: &[u32]) -> Vec<Longest> {
+        let mut known: HashMap<usize, Longest> = HashMap::new();
+        for cell in self.ground.solid() {
+            if let Some(Meeting { outlet, length }) = self.meeting(cell) {
+                known.entry(outlet).or_insert_with(Longest::of_none).meet(cell, length);
+            }
+        }
+        let mut longest = |outlet| known.remove(&outlet).expect("an outlet meets itself");
+        outlets.iter().map(|&o| self.in_order(longest(o as usize), o as usize)).collect()
+    }
+
+    fn in_order(&self, mut longest: Longest, outlet: usize) -> Longest {
+        longest.starts.sort_by_cached_key(|&start| self.route_upward(start as usize, outlet));
+        longest
     }
 
     /// The ways taken from the outlet up to a start of its subwatershed. Of
@@ -166,6 +194,18 @@ pub(crate) mod tests {
             for cell in division.ground().solid() {
                 let inflows = division.inflows(cell).map(|(_, c)| subaccumulation[c]);
                 assert_eq!(subaccumulation[cell], 1 + inflows.sum::<u32>());
+            }
+        });
+    }
+
+    #[test]
+    fn the_longest_of_each_are_those_of_one_after_the_other() {
+        every_division(|division, outlets| {
+            let backward: Vec<u32> = outlets.iter().rev().copied().collect();
+            for list in [outlets, &backward] {
+                let each = division.longest_of_each(list);
+                let one_by_one = list.iter().map(|&outlet| division.longest(outlet as usize));
+                assert_eq!(each, one_by_one.collect::<Vec<Longest>>());
             }
         });
     }

@@ -1,6 +1,7 @@
 //! One call, made to the host library and to the second reading, and every
 //! lent byte compared afterwards.
 
+mod all_outlets;
 mod converting;
 mod drawing;
 mod grids;
@@ -19,6 +20,7 @@ use crate::lent::{noise, Difference, Element, Lent};
 use crate::tally::{Entry, Tally};
 use slices::{Compared, Input, Output};
 
+pub use all_outlets::{AllRooms, AllTraced};
 pub use converting::Conversion;
 pub use tracing::{Ask, Engine, Rooms};
 

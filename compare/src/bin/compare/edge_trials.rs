@@ -1,15 +1,20 @@
 //! 4,096 and 4,097 cells by recursion, on a stack of 2 MiB; lengths that all
-//! but tie; numbers wider than 16 bits; the largest grid.
+//! but tie; numbers wider than 16 bits; 256 outlets by one call; the largest
+//! grid.
 
+mod all_outlets;
 mod chains;
 mod near_ties;
 
 use second_reading::entries::Terrain;
+use second_reading::random::Random;
 
-use crate::calls::{Ask, Comparison, Engine, Rooms};
+use crate::calls::{AllRooms, Ask, Comparison, Engine, Rooms};
 use crate::grounds::{code_of, Grid};
+use all_outlets::every_sixteenth;
 use chains::{diagonal_serpent, full, straight_chain, turned, zigzag};
 
+pub use all_outlets::all_outlets;
 pub use near_ties::near_ties;
 
 /// Recursion at 4,096 cells (accepted) and at 4,097 (19), entering by each of
@@ -40,7 +45,7 @@ pub fn recursion(comparison: &mut Comparison) {
 
 /// Straight diagonals of 4,096 cells need the largest grid there is. There all
 /// other entries run too.
-pub fn largest_grid(comparison: &mut Comparison) {
+pub fn largest_grid(comparison: &mut Comparison, random: &mut Random) {
     let rooms = Rooms { grid: 4096 * 4096, list: 1, work: 3 * 4096 };
     for way in [1, 3, 5, 7] {
         comparison.about(format!("4096 cells, entering by neighbour {way}"));
@@ -60,6 +65,7 @@ pub fn largest_grid(comparison: &mut Comparison) {
             let ask = Ask { terrain, outlets: &[outlet], place: 0, dropping: 1 };
             let traced = comparison.trace(Engine::Stack, ask, rooms);
             comparison.draw(terrain, &[outlet], 0, traced.list[0], 4096);
+            every_sixteenth(comparison, terrain, random);
         }
     }
     comparison.about("4097 cells, entering by neighbour 7".to_string());
@@ -90,7 +96,8 @@ pub fn large_arm(comparison: &mut Comparison) {
 }
 
 /// Flow lengths and both engines on one subwatershed, these with and without
-/// dropping; the stack's working space and list are just large enough.
+/// dropping; the stack's working space and list are just large enough. The call
+/// for all outlets, which is one, gives what the stack gave with dropping.
 fn lengths_and_engines(comparison: &mut Comparison, (grid, outlet): &(Grid, u32), due: u32) {
     let accumulation = grid.ground().accumulation();
     let cells = accumulation[*outlet as usize];
@@ -102,7 +109,15 @@ fn lengths_and_engines(comparison: &mut Comparison, (grid, outlet): &(Grid, u32)
         let traced = comparison.trace(Engine::Recursion, ask, rooms);
         assert_eq!(traced.number, due, "{}", comparison.subject());
         let list = if due == 0 { traced.results[2] as usize } else { rooms.list };
-        comparison.trace(Engine::Stack, ask, Rooms { list, ..rooms });
+        let traced = comparison.trace(Engine::Stack, ask, Rooms { list, ..rooms });
+        if dropping == 1 {
+            let [_, _, paths, visited, dropped] = traced.results;
+            let (grid, list) = (rooms.grid, paths as usize);
+            let rooms = AllRooms { grid, list, counts: 1, work: rooms.work };
+            let all = comparison.trace_all(terrain, &[*outlet], rooms);
+            assert_eq!((all.number, all.sums), (0, [visited, dropped]), "{}", comparison.subject());
+            assert_eq!((&all.list[..], all.counts), (&traced.list[..list], vec![paths]));
+        }
     }
 }
 

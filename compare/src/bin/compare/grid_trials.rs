@@ -1,6 +1,7 @@
 //! Grid entries on many grids, with sound and with damaged calls.
 
 mod accumulations;
+mod all_outlets;
 mod case;
 mod damages;
 mod larger;
@@ -11,6 +12,7 @@ use second_reading::random::Random;
 use crate::calls::Comparison;
 use crate::grounds::{self, Grid};
 use accumulations::nearly_agreeing;
+use all_outlets::around_all_needs;
 use case::{around_needs, drawings, Case};
 use damages::damaged;
 use outlets::outlets_for;
@@ -38,6 +40,9 @@ pub fn every_small_grid(comparison: &mut Comparison, random: &mut Random) {
                 let start = random.below(cells) as u32;
                 let case = Case::new(&grid, &accumulation, &outlets, 0, start);
                 case.every_entry(comparison, random);
+                if !grid.ground().has_ring() {
+                    around_all_needs(comparison, &case, 2, random);
+                }
             }
         }
     }
@@ -111,6 +116,7 @@ fn on_grid(comparison: &mut Comparison, grid: &Grid, random: &mut Random) {
         let place = random.below(outlets.len());
         let start = random.pick(&solid);
         let case = Case::new(grid, &accumulation, &outlets, place, start);
+        around_all_needs(comparison, &case, 7 * effort, random);
         damaged(comparison, &case, 2 * effort, random);
     }
 }

@@ -8,7 +8,7 @@ use second_reading::random::Random;
 /// Elements of a fence. An odd number, so that bytes are lent at odd places.
 const FENCE: usize = 17;
 
-/// What can be lent: bytes and 32-bit numbers.
+/// What can be lent: bytes, 32-bit numbers, and numbers of places.
 pub trait Element: Copy + PartialEq + Display {
     fn noise(random: &mut Random) -> Self;
 }
@@ -28,6 +28,12 @@ impl Element for u8 {
 impl Element for u32 {
     fn noise(random: &mut Random) -> u32 {
         random.bits() as u32
+    }
+}
+
+impl Element for usize {
+    fn noise(random: &mut Random) -> usize {
+        random.bits() as usize
     }
 }
 

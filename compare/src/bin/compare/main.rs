@@ -15,6 +15,7 @@ mod edge_trials;
 mod grid_trials;
 mod grounds;
 mod lent;
+mod part_trials;
 mod sheet_files;
 mod sheet_trials;
 mod table_trials;
@@ -64,9 +65,8 @@ enum Asked {
 fn compare_calls(follow: bool) -> ExitCode {
     let begun = Instant::now();
     let mut comparison = Comparison::new(SEED, follow);
-    let mut random = Random::new(SEED);
     type Part = (&'static str, fn(&mut Comparison, &mut Random));
-    let parts: [Part; 11] = [
+    let parts: [Part; 13] = [
         ("traps", |comparison, _| trap_trials::run(comparison)),
         ("sheets", sheet_trials::run),
         ("every small grid", grid_trials::every_small_grid),
@@ -74,14 +74,17 @@ fn compare_calls(follow: bool) -> ExitCode {
         ("near ties", |comparison, _| edge_trials::near_ties(comparison)),
         ("a large arm", |comparison, _| edge_trials::large_arm(comparison)),
         ("outlets' edges", grid_trials::outlet_edges),
+        ("256 outlets at once", edge_trials::all_outlets),
+        ("parts of lists", part_trials::run),
         ("many grids", |comparison, random| grid_trials::many_grids(comparison, 2000, random)),
         ("larger grids", grid_trials::larger_grids),
         ("tables of codes", table_trials::run),
-        ("the largest grid", |comparison, _| edge_trials::largest_grid(comparison)),
+        ("the largest grid", edge_trials::largest_grid),
     ];
-    for (name, part) in parts {
+    for (place, (name, part)) in parts.into_iter().enumerate() {
         let (calls, begun) = (comparison.tally.calls(), Instant::now());
-        part(&mut comparison, &mut random);
+        // Each part has numbers of its own, so that what is tried in one does not hang on another.
+        part(&mut comparison, &mut Random::new(SEED + place as u64));
         let calls = comparison.tally.calls() - calls;
         println!("{name}: {calls} calls, {:.1} s", begun.elapsed().as_secs_f64());
     }

@@ -1,10 +1,14 @@
-//! How many calls of each number each entry saw, and what was seen of ponds and of drops.
+//! How many calls of each number each entry saw, and what was seen of ponds, of drops, of calls for
+//! all outlets and of parts.
 
+mod all_outlets;
 mod searches;
 mod sights;
 
-use sights::Sights;
+use all_outlets::{ALL_CALLS, PARTS};
+use sights::TRACINGS;
 
+pub use all_outlets::{AllCall, Part};
 pub use searches::Searches;
 pub use sights::Accepted;
 
@@ -22,12 +26,15 @@ pub enum Entry {
     TraceByStackDropping,
     TraceByRecursion,
     TraceByRecursionDropping,
+    TraceAll,
+    /// It answers with no number: its calls are counted under 0.
+    StartsOf,
     Draw,
     ReadSheet,
     WriteSheet,
 }
 
-const ENTRIES: [Entry; 12] = [
+const ENTRIES: [Entry; 14] = [
     Entry::Accumulate,
     Entry::CheckAccumulation,
     Entry::Subaccumulate,
@@ -37,6 +44,8 @@ const ENTRIES: [Entry; 12] = [
     Entry::TraceByStackDropping,
     Entry::TraceByRecursion,
     Entry::TraceByRecursionDropping,
+    Entry::TraceAll,
+    Entry::StartsOf,
     Entry::Draw,
     Entry::ReadSheet,
     Entry::WriteSheet,
@@ -54,6 +63,8 @@ impl Entry {
             Entry::TraceByStackDropping => "stack-drop",
             Entry::TraceByRecursion => "recur",
             Entry::TraceByRecursionDropping => "recur-drop",
+            Entry::TraceAll => "trace-all",
+            Entry::StartsOf => "starts-of",
             Entry::Draw => "draw",
             Entry::ReadSheet => "read",
             Entry::WriteSheet => "write",
@@ -73,6 +84,8 @@ impl Entry {
             Entry::TraceByRecursion | Entry::TraceByRecursionDropping => {
                 &[0, 10, 11, 12, 14, 15, 16, 17, 18, 19, 21]
             }
+            Entry::TraceAll => &[0, 10, 11, 12, 14, 15, 16, 17, 20, 21, 23],
+            Entry::StartsOf => &[0],
             Entry::Draw => &[0, 10, 11, 12, 14, 15, 16, 17, 18, 22, 23],
             Entry::ReadSheet => &[0, 1, 2, 3, 4, 5, 6, 7, 8, 9],
             Entry::WriteSheet => &[0, 2, 3, 5, 7, 8, 23],
@@ -83,12 +96,41 @@ impl Entry {
 #[derive(Default)]
 pub struct Tally {
     counts: [[u64; NUMBERS]; ENTRIES.len()],
-    pub sights: Sights,
+    tracings: [u64; TRACINGS.len()],
+    all_calls: [u64; ALL_CALLS.len()],
+    parts: [u64; PARTS.len()],
+}
+
+/// Counts the sights that were seen.
+fn see(counts: &mut [u64], seen: impl IntoIterator<Item = bool>) {
+    counts.iter_mut().zip(seen).for_each(|(count, seen)| *count += u64::from(seen));
 }
 
 impl Tally {
     pub fn count(&mut self, entry: Entry, number: u32) {
         self.counts[entry as usize][number as usize] += 1;
+    }
+
+    pub fn see_tracing(&mut self, tracing: &Accepted) {
+        see(&mut self.tracings, TRACINGS.map(|(_, is_seen)| is_seen(tracing)));
+    }
+
+    pub fn see_all_call(&mut self, call: &AllCall) {
+        see(&mut self.all_calls, ALL_CALLS.map(|(_, is_seen)| is_seen(call)));
+    }
+
+    pub fn see_part(&mut self, part: &Part) {
+        see(&mut self.parts, PARTS.map(|(_, is_seen)| is_seen(part)));
+    }
+
+    /// Every sight, and how often it was seen.
+    fn sights(&self) -> impl Iterator<Item = (String, u64)> + '_ {
+        let tracings = TRACINGS.map(|(name, _)| format!("accepted tracings, {name}"));
+        let all_calls = ALL_CALLS.map(|(name, _)| format!("calls for all outlets, {name}"));
+        let parts = PARTS.map(|(name, _)| format!("parts, {name}"));
+        let names = tracings.into_iter().chain(all_calls).chain(parts);
+        let counts = self.tracings.iter().chain(&self.all_calls).chain(&self.parts);
+        names.zip(counts.copied())
     }
 
     pub fn calls(&self) -> u64 {
@@ -103,7 +145,8 @@ impl Tally {
         let numbers = possible
             .filter(|&(entry, number)| self.counts[entry as usize][number as usize] == 0)
             .map(|(entry, number)| format!("{number} of {}", entry.name()));
-        numbers.chain(self.sights.unseen().map(str::to_string)).collect()
+        let sights = self.sights().filter(|&(_, count)| count == 0).map(|(name, _)| name);
+        numbers.chain(sights).collect()
     }
 
     pub fn print(&self) {
@@ -125,6 +168,6 @@ impl Tally {
         print!("   all");
         self.counts.iter().for_each(|counts| print!(" {:>10}", counts.iter().sum::<u64>()));
         println!(" {:>10}", self.calls());
-        self.sights.print();
+        self.sights().for_each(|(name, count)| println!("{name}: {count}"));
     }
 }

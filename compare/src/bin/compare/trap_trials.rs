@@ -1,5 +1,6 @@
 //! Small grids and single calls with their answers spelled out by hand.
 
+mod all_outlets;
 mod limits;
 mod pond_calls;
 mod ponds;
@@ -21,6 +22,7 @@ pub fn run(comparison: &mut Comparison) {
         tracing(comparison, trap);
         drawing(comparison, trap);
         flow_lengths(comparison, trap);
+        all_outlets::of_trap(comparison, trap);
         every_pair(comparison, &trap.grid(), &[]);
     }
     whole_subaccumulation(comparison);
@@ -28,6 +30,7 @@ pub fn run(comparison: &mut Comparison) {
     refusals(comparison);
     sheets(comparison);
     pond_calls::ponds(comparison);
+    all_outlets::all_outlets(comparison);
 }
 
 fn tracing(comparison: &mut Comparison, trap: &Trap) {

@@ -121,7 +121,7 @@ impl Comparison {
             let (outlet, outlets) = (outlets.contents[place] as usize, outlets.contents);
             let starts = &starts.due[..tracing.results()[2] as usize];
             let searches = (dropping != 0).then(|| Searches::of(ground, outlet, outlets, starts));
-            self.tally.sights.count(&Accepted { ground, outlet, outlets, searches });
+            self.tally.see_tracing(&Accepted { ground, outlet, outlets, searches });
         }
         Traced {
             number: tracing.number(),

@@ -5,7 +5,7 @@ use second_reading::ground::Ground;
 use second_reading::random::Random;
 use second_reading::subwatershed::Division;
 
-use crate::calls::{Ask, Comparison, Engine, Rooms};
+use crate::calls::{AllRooms, Ask, Comparison, Engine, Rooms};
 use crate::grounds::Grid;
 
 /// Everything that the grid entries take, for one outlet and one start.
@@ -25,6 +25,10 @@ pub struct Case {
     pub list_room: usize,
     pub work_room: usize,
     pub path_room: usize,
+    /// Places of the list, the counts and the working space for all outlets at once.
+    pub all_list_room: usize,
+    pub counts_room: usize,
+    pub all_work_room: usize,
 }
 
 impl Case {
@@ -50,20 +54,31 @@ impl Case {
             list_room: 1,
             work_room: 3 * grid.cells(),
             path_room: grid.cells(),
+            all_list_room: 1,
+            counts_room: outlets.len(),
+            all_work_room: 3 * grid.cells(),
         };
-        if !grid.ground().has_ring() && place < outlets.len() {
-            let division = Division::new(grid.ground(), outlets);
-            let outlet = outlets[place] as usize;
-            case.list_room = division.longest(outlet).starts.len();
-            case.work_room = 3 * division.subaccumulation()[outlet] as usize;
-            if division.belongs(start as usize, outlet) {
-                case.path_room = division.path(start as usize, outlet).len();
+        if grid.ground().has_ring() || outlets.is_empty() {
+            return case;
+        }
+        let division = Division::new(grid.ground(), outlets);
+        let longest = division.longest_of_each(outlets);
+        let subaccumulation = division.subaccumulation();
+        let work = |outlet: u32| 3 * subaccumulation[outlet as usize] as usize;
+        case.all_list_room = longest.iter().map(|longest| longest.starts.len()).sum();
+        case.all_work_room = outlets.iter().map(|&outlet| work(outlet)).max().unwrap_or(0);
+        if place < outlets.len() {
+            let outlet = outlets[place];
+            case.list_room = longest[place].starts.len();
+            case.work_room = work(outlet);
+            if division.belongs(start as usize, outlet as usize) {
+                case.path_room = division.path(start as usize, outlet as usize).len();
             }
         }
         case
     }
 
-    fn terrain(&self) -> Terrain<'_> {
+    pub fn terrain(&self) -> Terrain<'_> {
         Terrain {
             rows: self.rows,
             cols: self.cols,
@@ -78,6 +93,15 @@ impl Case {
 
     fn rooms(&self) -> Rooms {
         Rooms { grid: self.grid_room, list: self.list_room, work: self.work_room }
+    }
+
+    pub fn all_rooms(&self) -> AllRooms {
+        AllRooms {
+            grid: self.grid_room,
+            list: self.all_list_room,
+            counts: self.counts_room,
+            work: self.all_work_room,
+        }
     }
 
     /// Both engines, with and without dropping.
@@ -100,6 +124,7 @@ impl Case {
         comparison.subaccumulate(self.terrain(), &self.outlets, self.grid_room);
         comparison.flow_lengths(self.terrain(), &self.outlets, self.length_rooms);
         self.trace(comparison, self.rooms(), random);
+        comparison.trace_all(self.terrain(), &self.outlets, self.all_rooms());
         self.draw(comparison, self.start, self.path_room);
     }
 

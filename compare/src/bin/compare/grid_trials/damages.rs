@@ -36,7 +36,7 @@ pub fn damaged(comparison: &mut Comparison, case: &Case, several: usize, random:
 type Damage = (&'static str, fn(&mut Case, &mut Random));
 
 /// What can be done to a sound case. Some of it leaves the case sound.
-const DAMAGES: [Damage; 24] = [
+const DAMAGES: [Damage; 25] = [
     ("odd rows", |case, random| case.rows = odd_side(case.rows, random)),
     ("odd columns", |case, random| case.cols = odd_side(case.cols, random)),
     ("odd sides", |case, random| {
@@ -77,6 +77,9 @@ const DAMAGES: [Damage; 24] = [
         case.list_room += random.between(1, 9);
         case.work_room += random.between(1, 9);
         case.path_room += random.between(1, 9);
+        case.all_list_room += random.between(1, 9);
+        case.counts_room += random.between(1, 9);
+        case.all_work_room += random.between(1, 9);
     }),
     ("bad code", |case, random| {
         if let Some(cell) = Case::any_place(case.codes.len(), random) {
@@ -180,11 +183,18 @@ const DAMAGES: [Damage; 24] = [
         case.place = random.pick(&beyond);
     }),
     ("short list", |case, random| {
-        case.list_room = random.pick(&[0, case.list_room.saturating_sub(1), case.list_room / 2]);
+        for room in [&mut case.list_room, &mut case.all_list_room] {
+            *room = random.pick(&[0, room.saturating_sub(1), *room / 2]);
+        }
+    }),
+    ("short counts", |case, random| {
+        let need = case.counts_room;
+        case.counts_room = random.pick(&[0, need.saturating_sub(1), need / 2]);
     }),
     ("short working space", |case, random| {
-        let need = case.work_room;
-        case.work_room = random.pick(&[0, need.saturating_sub(1), need / 3, need / 3 * 2]);
+        for room in [&mut case.work_room, &mut case.all_work_room] {
+            *room = random.pick(&[0, room.saturating_sub(1), *room / 3, *room / 3 * 2]);
+        }
     }),
     ("odd start", |case, random| {
         let cells = case.codes.len() as u32;

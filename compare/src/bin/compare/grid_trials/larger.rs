@@ -4,9 +4,10 @@ use second_reading::entries::Terrain;
 use second_reading::random::Random;
 
 use super::accumulations::nearly_agreeing;
+use super::all_outlets::around_all_needs;
 use super::case::Case;
 use super::damages::damaged;
-use crate::calls::{Ask, Comparison, Engine, Rooms};
+use crate::calls::{AllRooms, Ask, Comparison, Engine, Rooms};
 use crate::grounds::{self, Grid};
 
 /// A few grids larger than a sheet, each with few calls.
@@ -51,6 +52,9 @@ pub fn larger_grids(comparison: &mut Comparison, random: &mut Random) {
             let case = Case::new(&grid, &accumulation, &outlets, place, start);
             case.every_entry(comparison, random);
             if grid.cells() < 7000 {
+                if !ground.has_ring() {
+                    around_all_needs(comparison, &case, 3, random);
+                }
                 damaged(comparison, &case, 3, random);
             }
         }
@@ -67,7 +71,7 @@ fn whole_valleys(rows: usize, cols: usize, random: &mut Random) -> Grid {
     }
 }
 
-/// Each entry once for the last outlet, tracing with dropping.
+/// Each entry once for the last outlet, tracing with dropping, and once for all outlets.
 fn once(
     comparison: &mut Comparison,
     grid: &Grid,
@@ -87,4 +91,8 @@ fn once(
     let traced = comparison.trace(Engine::Stack, ask, rooms);
     comparison.draw(terrain, outlets, place, traced.list[0], cells);
     comparison.trace(Engine::Recursion, Ask { place: random.below(outlets.len()), ..ask }, rooms);
+    let rooms = AllRooms { grid: cells, list: 9999, counts: 256, work: 3 * cells };
+    let all = comparison.trace_all(terrain, outlets, rooms);
+    assert_eq!(all.number, 0, "{}", comparison.subject());
+    comparison.every_part(outlets.len(), &all);
 }

@@ -41,7 +41,7 @@ pub fn outlets_for(grid: &Grid, accumulation: &[u32], random: &mut Random) -> Ve
         }
         5 => {
             random.shuffle(&mut solid);
-            solid.truncate(256);
+            solid.truncate(if random.one_in(2) { 256 } else { random.between(10, 255) });
             solid
         }
         _ => {

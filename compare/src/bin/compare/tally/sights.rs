@@ -16,7 +16,7 @@ pub struct Accepted<'a> {
 /// Something to be seen of it.
 type Sight = (&'static str, fn(&Accepted) -> bool);
 
-const SIGHTS: [Sight; 12] = [
+pub const TRACINGS: [Sight; 12] = [
     ("ground without ponds", |tracing| ponds(tracing.ground).next().is_none()),
     ("a pond that is no outlet", |tracing| {
         ponds(tracing.ground).any(|pond| !tracing.outlets.contains(&(pond as u32)))
@@ -62,29 +62,4 @@ fn around(ground: Ground<'_>, cell: usize) -> impl Iterator<Item = usize> + '_ {
 
 fn dropped(tracing: &Accepted, is_seen: fn(&Searches) -> bool) -> bool {
     tracing.searches.as_ref().is_some_and(is_seen)
-}
-
-#[derive(Default)]
-pub struct Sights {
-    counts: [u64; SIGHTS.len()],
-}
-
-impl Sights {
-    pub fn count(&mut self, tracing: &Accepted) {
-        for (count, (_, is_seen)) in self.counts.iter_mut().zip(SIGHTS) {
-            *count += u64::from(is_seen(tracing));
-        }
-    }
-
-    fn named(&self) -> impl Iterator<Item = (&'static str, u64)> + '_ {
-        SIGHTS.iter().zip(&self.counts).map(|(&(name, _), &count)| (name, count))
-    }
-
-    pub fn unseen(&self) -> impl Iterator<Item = &'static str> + '_ {
-        self.named().filter(|&(_, count)| count == 0).map(|(name, _)| name)
-    }
-
-    pub fn print(&self) {
-        self.named().for_each(|(name, count)| println!("accepted tracings, {name}: {count}"));
-    }
 }
