@@ -10,10 +10,10 @@ use lib.Seq.{sets, sets-eq, length-sets, drop-cons, drop-drop, take-all}
 use Rattle.lists.specs.Lists.{sumOf, joined}
 use Rattle.lists.specs.Slices.{overlaid}
 use Rattle.lists.proofs.Overlaid.{overlaid-front, sets-after, sets-overlaid}
-use Rattle.lists.proofs.Sums.{joined-left, joined-length, sum-left}
+use Rattle.lists.proofs.Sums.{joined-left, sum-left}
 use Rattle.ground.specs.Grid.{Grid}
-use Rattle.search.specs.Tracing.{startCells}
-use Rattle.answers.specs.AllOutlets.{tracingOf, allStarts, pathCounts}
+use Rattle.answers.specs.AllOutlets.{allStarts, pathCounts}
+use Rattle.answers.proofs.AllOutlets.{startsTo, long-starts, all-long}
 use Rattle.alloutlets.proofs.Counting.{pathsTo, Adds}
 
 -- numbers written to the part of a list from a place on
@@ -39,14 +39,11 @@ put-part xs cs a {ys} h e =
         ∙ ap (λ (l : List ℕ). cs ++ l) (drop-drop (length cs) a xs)
 
 module _ (g : Grid) (outlets : List ℕ) where
-  abbrev pub startsTo : ℕ → List ℕ
-  startsTo o = startCells (tracingOf g outlets o)
-
   pub record Listing (starts₀ counts₀ : List ℕ) (j from : ℕ) (starts counts : List ℕ) : Type 0 where
     pub before : Adds g outlets (pathsTo g outlets) j from
     pub same-starts : length starts ≡ length starts₀
     pub same-counts : length counts ≡ length counts₀
-    pub starts-left : sets starts from (joined (map startsTo (drop j outlets))) ≡ sets starts₀ 0 (allStarts g outlets)
+    pub starts-left : sets starts from (joined (map (startsTo g outlets) (drop j outlets))) ≡ sets starts₀ 0 (allStarts g outlets)
     pub counts-left : sets counts j (map (pathsTo g outlets) (drop j outlets)) ≡ sets counts₀ 0 (pathCounts g outlets)
 
   pub listing-none : {starts counts : List ℕ} → Listing starts counts 0 0 starts counts
@@ -58,13 +55,6 @@ module _ (g : Grid) (outlets : List ℕ) where
     counts-left = refl;
   }
 
-  -- as many starts as paths
-  pub long-starts : (o : ℕ) → length (startsTo o) ≡ pathsTo g outlets o
-  long-starts o = length-map (tracingOf g outlets o .starts) (λ x. x .cell)
-
-  pub all-long : length (allStarts g outlets) ≡ sumOf (pathCounts g outlets)
-  all-long = joined-length startsTo outlets ∙ (λ i. sumOf (map (λ o. long-starts o i) outlets))
-
   module _ {starts₀ counts₀ : List ℕ} where
     -- what is listed, and one outlet more, stays within the list
     module _ {j : ℕ} (i : j < length outlets) (room : sumOf (pathCounts g outlets) ≤ length starts₀) {from : ℕ}
@@ -72,16 +62,16 @@ module _ (g : Grid) (outlets : List ℕ) where
       pub within : from + pathsTo g outlets (getD outlets j 0) ≤ length starts
       within = omega (arith, l .before, l .same-starts, room, sum-left (pathsTo g outlets) outlets j i)
 
-      pub listing-more : {starts′ : List ℕ} (count paths : ℕ) → starts′ ≡ sets starts from (startsTo (getD outlets j 0))
+      pub listing-more : {starts′ : List ℕ} (count paths : ℕ) → starts′ ≡ sets starts from (startsTo g outlets (getD outlets j 0))
           → count ≡ pathsTo g outlets (getD outlets j 0) → paths ≡ count
           → Listing starts₀ counts₀ (j + 1) (from + paths) starts′ (set counts j count)
       listing-more {starts′} count paths e q p = record {
         before = rw (add-one j) (omega (arith, l .before, q, p, sum-left (pathsTo g outlets) outlets j i));
-        same-starts = ap length e ∙ length-sets starts from (startsTo (getD outlets j 0)) ∙ l .same-starts;
+        same-starts = ap length e ∙ length-sets starts from (startsTo g outlets (getD outlets j 0)) ∙ l .same-starts;
         same-counts = length-set counts j count ∙ l .same-counts;
-        starts-left = rw (add-one j, e, p, q, sym (long-starts (getD outlets j 0))) (
-            sets-after (startsTo (getD outlets j 0)) (joined (map startsTo (drop (suc j) outlets))) starts from
-            ∙ ap (sets starts from) (sym (joined-left startsTo outlets j i)) ∙ l .starts-left
+        starts-left = rw (add-one j, e, p, q, sym (long-starts g outlets (getD outlets j 0))) (
+            sets-after (startsTo g outlets (getD outlets j 0)) (joined (map (startsTo g outlets) (drop (suc j) outlets))) starts from
+            ∙ ap (sets starts from) (sym (joined-left (startsTo g outlets) outlets j i)) ∙ l .starts-left
             );
         counts-left = rw (add-one j, q) (
             ap (λ (os : List ℕ). sets counts j (map (pathsTo g outlets) os)) (sym (drop-cons outlets j 0 i))
@@ -97,8 +87,8 @@ module _ (g : Grid) (outlets : List ℕ) where
 
       pub all-listed : sumOf (pathCounts g outlets) ≤ length starts₀ → starts ≡ overlaid (allStarts g outlets) starts₀
       unfolding joined
-      all-listed r = ap (λ (os : List ℕ). sets starts from (joined (map startsTo os))) (sym none-left) ∙ l .starts-left
-          ∙ sets-overlaid starts₀ (allStarts g outlets) (omega (arith, r, all-long))
+      all-listed r = ap (λ (os : List ℕ). sets starts from (joined (map (startsTo g outlets) os))) (sym none-left) ∙ l .starts-left
+          ∙ sets-overlaid starts₀ (allStarts g outlets) (omega (arith, r, all-long g outlets))
 
       pub all-counted : length outlets ≤ length counts₀ → counts ≡ overlaid (pathCounts g outlets) counts₀
       all-counted r = ap (λ (os : List ℕ). sets counts j (map (pathsTo g outlets) os)) (sym none-left) ∙ l .counts-left

@@ -209,6 +209,10 @@ module _ (q : Call) where
       → Seen q r (new .starts)
   stack-seen {old} {work = work} t = seen (stack-reached old work) (t .traces)
 
+  pub seen-way : {r : Traced} {new : Lent} → Way q r new → Seen q r (new .starts)
+  seen-way (by-recursion old t) = recursion-seen t
+  seen-way (by-stack old work space t) = stack-seen t
+
   way-plain : {r : Traced} {new : Lent} → Way q r new → numberOf (r .answer) ≡ 0
       → (r .answer ≡ Found (longestLength plain .straight) (longestLength plain .diagonal) (pathCount plain))
       × (take (inNumbers (r .answer) .paths) (new .starts) ≡ startCells plain)

@@ -6,6 +6,7 @@ pub mod Answers
 pub mod Tracings
 pub mod AllOutlets
 pub mod Seen
+pub mod AllSeen
 pub mod Drawing
 pub mod MarkedRows
 pub mod Marked

@@ -7,9 +7,10 @@ use borrow.Author.Needs.{needs}
 use lib.ListN.{length, getD}
 use Rattle.lists.proofs.Kept.{kept-all}
 use Rattle.ground.specs.Grid.{gridOf}
+use Rattle.answers.proofs.AllOutlets.{startsTo, long-starts}
 use Rattle.alloutlets.specs.Passes.{WorkKept}
 use Rattle.alloutlets.proofs.Counting.{pathsTo, has-room, kept-search}
-use Rattle.alloutlets.proofs.Listing.{startsTo, long-starts, Listing, listing-none, listing-more, within}
+use Rattle.alloutlets.proofs.Listing.{Listing, listing-none, listing-more, within}
 use Rattle.alloutlets.proofs.Listing.{put-part, all-listed, all-counted}
 use Rattle.alloutlets.proofs.list_all.Statement.{statement}
 use Rattle.alloutlets.proofs.list_all.Tie as tie

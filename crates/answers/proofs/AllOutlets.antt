@@ -1,0 +1,267 @@
+-- All outlets in one call: what is seen of it is what one call for each outlet would have told.
+-- Assumes nothing.
+use mathlib.Core.Path.{_≡_, refl, sym, ap, _∙_}
+use mathlib.Core.Bool.{Bool, true, false, cond, _&&_}
+use mathlib.Core.Logic.{_⊎_, inl, inr}
+use mathlib.Core.List.{List, [], _∷_, _++_, map}
+use Prim.Native.Nat.{ℕ, suc, _+_, _≤_, _<_}
+use native.Mathlib.Omega.{arith}
+use lib.ListN.{length, getD, take, drop, length-map}
+use lib.Seq.{take-all, take-append-le, length-take-le}
+use lib.Dec.{ltb}
+use borrow.Author.Tests.{lt-ltb, le-leb, leb-true}
+use Rattle.lists.specs.Lists.{Every, member, different, sumOf, howMany}
+use Rattle.lists.specs.Slices.{overlaid}
+use Rattle.lists.proofs.Lists.{and-both, every-map, every-at, every-placed, getD-map}
+use Rattle.lists.proofs.Members.{member-at, different-sorted}
+use Rattle.lists.proofs.Overlaid.{overlaid-length, overlaid-front, overlaid-at}
+use Rattle.lists.proofs.Sums.{sum-next, sum-more, sum-parts, sum-alike, joined-length, joined-part, lengths}
+use Rattle.ground.specs.Grid.{Grid, cellCount, ground}
+use Rattle.ground.specs.Accumulation.{agrees, subaccumulation}
+use Rattle.ground.proofs.AllOutlets.{outlets-ground}
+use Rattle.search.specs.Tracing.{pathCount, startCells, tracing}
+use Rattle.search.specs.Demand.{anyCell, Demand3}
+use Rattle.search.proofs.Demand3.{demand3}
+use Rattle.answers.specs.Checks.{Check, check10, check11, check12, check14, check15, check16, check17}
+use Rattle.answers.specs.Checks.{check20, check21, check23}
+use Rattle.answers.specs.declared.Traced.{Traced}
+use Rattle.answers.specs.declared.TracedAll.{TracedAll}
+use Rattle.answers.specs.Entries.{Catchment, outletChecks}
+use Rattle.answers.specs.AllOutlets.{LentAll, tracingOf, allStarts, pathCounts, allVisited, allDropped}
+use Rattle.answers.specs.AllOutlets.{traceAllNumber, tellsAll, leavesAll, TracesAll, startsBefore, partCount}
+use Rattle.answers.specs.AllOutlets.{mostCells, tracedAll, startsPart}
+use Rattle.answers.specs.declared.Answer.{Answer}
+use Rattle.answers.specs.Answers.{numberOf, inNumbers}
+use Rattle.answers.specs.Tracings.{Lent}
+use Rattle.answers.specs.Seen.{SearchCounts, Way}
+use Rattle.answers.specs.AllSeen.{alone, SearchedAlone, SumsSeen, PartSeen, AllSeen}
+use Rattle.answers.proofs.FirstFailed.{all-every, passed}
+use Rattle.answers.proofs.Accepted.{seen-way}
+
+module _ (g : Grid) (outlets : List ℕ) where
+  -- as many starts as paths
+  pub long-starts : (o : ℕ) → length (startCells (tracingOf g outlets o)) ≡ pathCount (tracingOf g outlets o)
+  long-starts o = length-map (tracingOf g outlets o .starts) (λ x. x .cell)
+
+  abbrev pub startsTo : ℕ → List ℕ
+  startsTo o = startCells (tracingOf g outlets o)
+
+  counts-are : lengths startsTo outlets ≡ pathCounts g outlets
+  counts-are = λ i. map (λ o. long-starts o i) outlets
+
+  pub all-long : length (allStarts g outlets) ≡ sumOf (pathCounts g outlets)
+  all-long = joined-length startsTo outlets ∙ ap sumOf counts-are
+
+  -- THE PART at a place of the list is what the tracing lists of that outlet
+  module _ (starts counts : List ℕ) (rs : sumOf (pathCounts g outlets) ≤ length starts)
+      (rc : length outlets ≤ length counts) (i : ℕ) (h : i < length outlets) where
+    abbrev outlet : ℕ
+    outlet = getD outlets i 0
+
+    abbrev newCounts : List ℕ
+    newCounts = overlaid (pathCounts g outlets) counts
+
+    abbrev newStarts : List ℕ
+    newStarts = overlaid (allStarts g outlets) starts
+
+    many : length (pathCounts g outlets) ≡ length outlets
+    many = length-map outlets (λ o. pathCount (tracingOf g outlets o))
+
+    inside : i < length (pathCounts g outlets)
+    inside = omega (arith, h, many)
+
+    pub own-count : getD newCounts i 0 ≡ pathCount (tracingOf g outlets outlet)
+    own-count = overlaid-at (pathCounts g outlets) counts (omega (arith, rc, many)) i inside
+        ∙ getD-map (λ o. pathCount (tracingOf g outlets o)) outlets i 0 h
+
+    before-same : startsBefore newCounts i ≡ sumOf (take i (pathCounts g outlets))
+    before-same = ap (λ (l : List ℕ). sumOf (take i l))
+        (overlaid-front (pathCounts g outlets) counts (omega (arith, rc, many)))
+        ∙ ap sumOf (take-append-le i (pathCounts g outlets) _ (omega (arith, inside)))
+
+    fits : startsBefore newCounts i + getD newCounts i 0 ≤ length newStarts
+    fits = omega (
+      arith,
+      before-same,
+      own-count,
+      getD-map (λ o. pathCount (tracingOf g outlets o)) outlets i 0 h,
+      sum-next (pathCounts g outlets) i inside,
+      sum-more (pathCounts g outlets) (suc i) (length (pathCounts g outlets)) inside,
+      ap sumOf (take-all (length (pathCounts g outlets)) (pathCounts g outlets) (omega arith)),
+      rs,
+      overlaid-length (allStarts g outlets) starts,
+    )
+
+    own-shown : partCount newCounts i (length newStarts) ≡ pathCount (tracingOf g outlets outlet)
+    unfolding partCount
+    own-shown = rw (
+      lt-ltb i (length newCounts) (omega (arith, h, rc, overlaid-length (pathCounts g outlets) counts)),
+      le-leb (startsBefore newCounts i + getD newCounts i 0) (length newStarts) fits,
+    ) own-count
+
+    pub part-listed : startsPart newStarts newCounts i ≡ startCells (tracingOf g outlets outlet)
+    part-listed =
+        rw (
+          own-shown,
+          before-same,
+          overlaid-front (allStarts g outlets) starts (omega (arith, rs, all-long)),
+          sym counts-are,
+          sym (long-starts outlet),
+        )
+        (joined-part startsTo outlets (drop (length (allStarts g outlets)) starts) i h)
+
+-- ---- what is seen of a call
+
+-- the answer's number is the number of the first check that fails
+told-number : (g : Grid) (outlets : List ℕ) (n : ℕ) → tellsAll g outlets n .number ≡ n
+unfolding tellsAll
+told-number g outlets n = go (member n (0 ∷ 21 ∷ []))
+  where
+    go : (b : Bool) → (cond b (tracedAll n (allVisited g outlets) (allDropped g outlets)) (tracedAll n 0 0)) .number ≡ n
+    go true = refl
+    go false = refl
+
+-- none of the checks before 20 gives 0 or 21
+apart-from : (n : ℕ) → (n ≡ 0) ⊎ (n ≡ 21) → (n < 10) ⊎ (17 < n)
+apart-from n (inl e) = inl (omega arith)
+apart-from n (inr e) = inr (omega arith)
+
+module _ (c : Catchment) (old : LentAll) where
+  abbrev land : Grid
+  land = c .grid
+
+  abbrev before : List Check
+  before = outletChecks c (length (c .accumulation) ∷ length (old .subaccumulation) ∷ [])
+
+  abbrev later : List Check
+  later = check20 (mostCells land (c .outlets)) (old .work) ∷ check23 (pathCounts land (c .outlets)) (old .counts)
+      ∷ check21 (sumOf (pathCounts land (c .outlets))) (old .starts) ∷ []
+
+  -- past 17, every outlet is traced as demand 3 says
+  pub record Sound : Type 0 where
+    pub agreement : agrees land (c .accumulation) ≡ true
+    pub on-ground : Every (λ o. ground land o ≡ true) (c .outlets)
+    pub are-different : different (c .outlets) ≡ true
+
+  sound : (n : ℕ) → (n ≡ 0) ⊎ (n ≡ 21) → traceAllNumber c old ≡ n → Sound
+  unfolding traceAllNumber check10 check11 check12 check14 check15 check16 check17
+  sound n i e =
+      let p = passed 17 n before later refl (apart-from n i) e in
+      record {
+        agreement = p 14;
+        on-ground = every-map (λ o. (ltb o (cellCount land) && ground land o) ≡ true) (λ o. ground land o ≡ true)
+            (λ o k. and-both (ltb o (cellCount land)) (ground land o) k .1) (c .outlets)
+            (all-every (λ o. ltb o (cellCount land) && ground land o) (c .outlets) (p 16));
+        are-different = p 17;
+      }
+
+  module _ (s : Sound) where
+    promise : (i : ℕ) → i < length (c .outlets)
+        → Demand3 land (c .outlets) anyCell (getD (c .outlets) i 0) (tracingOf land (c .outlets) (getD (c .outlets) i 0))
+        (tracing false land (c .outlets) (getD (c .outlets) i 0))
+    promise i h = demand3 land (c .accumulation) (s .agreement) (c .outlets) (getD (c .outlets) i 0)
+        (member-at (c .outlets) i h) (every-at (λ o. ground land o ≡ true) (c .outlets) (s .on-ground) i h) true
+
+    -- all that is visited or dropped
+    together : allVisited land (c .outlets) + allDropped land (c .outlets)
+        ≤ howMany (ground land) (cellCount land)
+    together = omega (
+      arith,
+      sum-parts (λ o. tracingOf land (c .outlets) o .visited) (λ o. tracingOf land (c .outlets) o .dropped) (c .outlets),
+      sum-alike (λ o. tracingOf land (c .outlets) o .visited + tracingOf land (c .outlets) o .dropped)
+          (subaccumulation land (c .outlets)) (c .outlets)
+          (every-placed (λ o. tracingOf land (c .outlets) o .visited + tracingOf land (c .outlets) o .dropped
+          ≡ subaccumulation land (c .outlets) o) (c .outlets)
+          (λ i h. promise i h .counts ∙ promise i h .cells)),
+      outlets-ground land (c .outlets) (c .accumulation) (s .agreement)
+          (different-sorted (c .outlets) (s .are-different)) (s .on-ground),
+    )
+
+  -- what a call for one outlet alone counted
+  alone-counts : (i : ℕ) {r : Traced} → SearchedAlone c i r → SearchCounts (alone c i) r
+  alone-counts i a = elim (a .searched) [
+    | inl e ↦ seen-way (alone c i) (a .way) .on-0 e .counts
+    | inr e ↦ seen-way (alone c i) (a .way) .on-21 e .counts
+  ]
+
+  module _ {r : TracedAll} {new : LentAll} (t : TracesAll c old r new) where
+    number-is : {n : ℕ} → r .number ≡ n → traceAllNumber c old ≡ n
+    number-is e = sym (ap (λ (a : TracedAll). a .number) (t .answers) ∙ told-number land (c .outlets) _) ∙ e
+
+    sums-told : (n : ℕ) → (n ≡ 0) ⊎ (n ≡ 21) → traceAllNumber c old ≡ n
+        → (r .visited ≡ allVisited land (c .outlets)) × (r .dropped ≡ allDropped land (c .outlets))
+    unfolding tellsAll
+    sums-told n (inl z) e = (rw (t .answers, e, z), rw (t .answers, e, z))
+    sums-told n (inr z) e = (rw (t .answers, e, z), rw (t .answers, e, z))
+
+    sums-seen : (r .number ≡ 0) ⊎ (r .number ≡ 21) → SumsSeen c r
+    sums-seen i =
+        let n = r .number in
+        let s = sound n i (number-is refl) in
+        let v = sums-told n i (number-is refl) in
+        record {
+          of-each = λ one a. (
+            v .0 ∙ sum-alike (λ o. tracingOf land (c .outlets) o .visited) (λ o. one o .visited) (c .outlets)
+                (every-placed (λ o. tracingOf land (c .outlets) o .visited ≡ one o .visited) (c .outlets)
+                (λ j h. sym (alone-counts j (a j h) .visited))),
+            v .1 ∙ sum-alike (λ o. tracingOf land (c .outlets) o .dropped) (λ o. one o .dropped) (c .outlets)
+                (every-placed (λ o. tracingOf land (c .outlets) o .dropped ≡ one o .dropped) (c .outlets)
+                (λ j h. sym (alone-counts j (a j h) .dropped))),
+          );
+          on-ground = omega (arith, v .0, v .1, together s);
+        }
+
+    -- accepted, there was room for all
+    module _ (z : r .number ≡ 0) where
+      room : (sumOf (pathCounts land (c .outlets)) ≤ length (old .starts))
+          × (length (c .outlets) ≤ length (old .counts))
+      unfolding traceAllNumber check10 check11 check12 check14 check15 check16 check17 check20 check21 check23
+      room =
+          let p = passed 23 0 (before ++ later) [] refl (inl (omega arith)) (number-is z) in
+          let q = leb-true (length (pathCounts land (c .outlets))) (length (old .counts)) (p 23) in (
+            leb-true (sumOf (pathCounts land (c .outlets))) (length (old .starts)) (p 21),
+            omega (arith, q, length-map (c .outlets) (λ o. pathCount (tracingOf land (c .outlets) o))),
+          )
+
+      left-lists : (new .starts ≡ overlaid (allStarts land (c .outlets)) (old .starts))
+          × (new .counts ≡ overlaid (pathCounts land (c .outlets)) (old .counts))
+      unfolding leavesAll
+      left-lists = (rw (t .leaves, number-is z), rw (t .leaves, number-is z))
+
+      module _ (i : ℕ) (h : i < length (c .outlets)) where
+        abbrev found : List ℕ
+        found = startsTo land (c .outlets) (getD (c .outlets) i 0)
+
+        part-is : startsPart (new .starts) (new .counts) i ≡ found
+        part-is = rw (left-lists .0, left-lists .1)
+            (part-listed land (c .outlets) (old .starts) (old .counts) (room .0) (room .1) i h)
+
+        count-is : getD (new .counts) i 0 ≡ length found
+        count-is = rw (left-lists .1)
+            (own-count land (c .outlets) (old .starts) (old .counts) (room .0) (room .1) i h
+            ∙ sym (long-starts land (c .outlets) (getD (c .outlets) i 0)))
+
+        -- a call for the outlet alone lists the same, since no other list is so
+        listed-alone : {a : Traced} {left : Lent} → Way (alone c i) a left → numberOf (a .answer) ≡ 0
+            → (length found ≡ inNumbers (a .answer) .paths)
+            × (found ≡ take (inNumbers (a .answer) .paths) (left .starts))
+        listed-alone {a} {left} w e =
+            let p = promise (sound 0 (inl refl) (number-is z)) i h in
+            let f = seen-way (alone c i) w .on-0 e in
+            let q = ap (λ (b : Answer). inNumbers b .paths) (f .found) in
+            let l = p .unique (take (f .paths) (left .starts)) (f .listed .exact) (f .listed .ordered) in
+            let m = length-take-le (f .paths) (left .starts) (f .has-place) in
+            rw q (omega (arith, ap length l, m), sym l)
+
+        pub part-seen : PartSeen c new i
+        part-seen =
+            let p = promise (sound 0 (inl refl) (number-is z)) i h in
+            record {
+              longest = rw part-is (record { exact = p .exact; once = p .once; ordered = p .ordered });
+              counted = count-is ∙ ap length (sym part-is);
+              as-alone = λ w e. let b = listed-alone w e in (count-is ∙ b .0, part-is ∙ b .1);
+            }
+
+  -- WHAT A CALLER SEES
+  pub all-seen : {r : TracedAll} {new : LentAll} → TracesAll c old r new → AllSeen c r new
+  all-seen t = record { sums = sums-seen t; parts = λ z i h. part-seen t z i h }
