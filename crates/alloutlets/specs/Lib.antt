@@ -1,1 +1,3 @@
-pub mod Passes
+pub mod AllOutlets
+pub mod Part
+pub mod Seen

@@ -1,6 +1,5 @@
 pub mod FirstFailed
 pub mod Accepted
-pub mod AllOutlets
 pub mod Converted
 pub mod ConversionCases
 pub mod Accumulated

@@ -4,9 +4,7 @@ pub mod FlowLengths
 pub mod Converting
 pub mod Answers
 pub mod Tracings
-pub mod AllOutlets
 pub mod Seen
-pub mod AllSeen
 pub mod Drawing
 pub mod MarkedRows
 pub mod Marked

@@ -25,14 +25,6 @@ pub struct Traced {
     pub answer: Answer,
 }
 
-// What became of tracing all outlets: the number of the first check that fails, 0 if none does, and the sums of the cells
-// visited and dropped.
-pub struct TracedAll {
-    pub number: u32,
-    pub visited: u32,
-    pub dropped: u32,
-}
-
 // An answer in numbers: 0 where paths are found, 21 where the list was too short, else the number of the refusal; and
 // the values that it has. The others are 0.
 pub struct Numbers {

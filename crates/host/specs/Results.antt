@@ -8,11 +8,12 @@ use Prim.Native.Nat.{ℕ}
 use lib.ListN.{length}
 use lib.Dec.{eqb}
 use Rattle.answers.specs.declared.Traced.{Traced}
-use Rattle.answers.specs.declared.TracedAll.{TracedAll}
+use Rattle.alloutlets.specs.declared.TracedAll.{TracedAll}
 use Rattle.answers.specs.Answers.{inNumbers}
 use Rattle.answers.specs.Entries.{Catchment}
 use Rattle.answers.specs.Tracings.{Call, Lent, TracesByRecursion, TracesByStack}
-use Rattle.answers.specs.AllOutlets.{LentAll, TracesAll, partBegin, partCount}
+use Rattle.alloutlets.specs.AllOutlets.{LentAll, TracesAll}
+use Rattle.alloutlets.specs.Part.{partBegin, partCount}
 use Rattle.answers.specs.Drawing.{Drawing, Draws}
 use Rattle.spelling.specs.declared.Sheet.{Sheet}
 use Rattle.spelling.specs.declared.Written.{Written}

@@ -8,7 +8,7 @@ ghost use Rattle.answers.specs.Entries.{catchment, Accumulates, checkNumber, Su
 ghost use Rattle.answers.specs.FlowLengths.{lengthGrids, TellsFlowLengths};
 ghost use Rattle.answers.specs.Converting.{conversion, Converts};
 ghost use Rattle.answers.specs.Tracings.{callOf, lent};
-ghost use Rattle.answers.specs.AllOutlets.{lentAll};
+ghost use Rattle.alloutlets.specs.AllOutlets.{lentAll};
 ghost use Rattle.answers.specs.Drawing.{drawingOf};
 ghost use Rattle.spelling.specs.Content.{content};
 ghost use Rattle.host.specs.Results.{nonZero, InNumbers, RecursionInC, StackInC, DrawingInC, ReadingInC};
@@ -199,7 +199,7 @@ pub extern "C" fn jb_trace_all(
         r (now (sums .exit))
         (lentAll (now (subaccumulation .exit)) (now (starts .exit)) (now (counts .exit)) (now (work .exit))) ⌝ }
 {
-    let t = alloutlets::trace_all(
+    let t = tracingall::trace_all(
         rows,
         cols,
         codes,
@@ -219,7 +219,7 @@ pub extern "C" fn jb_trace_all(
 pub extern "C" fn jb_starts_of(starts: &[u32], counts: &[u32], choice: usize, part: &mut [usize; 2])
     ensures { λ _. ⌜ PartInC (now (starts .entry)) (now (counts .entry)) choice (now (part .exit)) ⌝ }
 {
-    let p = listing::part_at(starts.len(), counts, choice);
+    let p = alloutlets::part_at(starts.len(), counts, choice);
     *part = [p.begin, p.count];
 }
 

@@ -10,9 +10,8 @@ ghost use lib.ListN.{length};
 ghost use Rattle.lists.specs.Slices.{overlaid};
 ghost use Rattle.answers.specs.declared.Answer.the-variants.{NoPlace};
 ghost use Rattle.answers.specs.Answers.{answered};
-ghost use Rattle.answers.specs.AllOutlets.{ShowsStarts};
 ghost use Rattle.progress.specs.Starts.{kept};
-ghost use Rattle.listing.specs.Answering.{refusedWith, answerWith, partAt};
+ghost use Rattle.listing.specs.Answering.{refusedWith, answerWith};
 
 // Refused before the search.
 pub fn refused(number: u32) -> Traced
@@ -68,51 +67,4 @@ pub fn list_starts(found: &[u32], end: usize, paths: u32, starts: &mut [u32])
         starts[k] = found[end - 1 - k];
         k += 1;
     }
-}
-
-// A part of a list: where it begins, and how many places it has. Both are 0 where it is empty.
-pub struct Part {
-    pub begin: usize,
-    pub count: usize,
-}
-
-// Where the starts of the chosen outlet stand in a list of n, by the counts of the outlets before it and its own. Counts
-// may be any numbers: none is added that would run past n.
-pub fn part_at(n: usize, counts: &[u32], choice: usize) -> Part
-    ensures { λ r. ⌜ r ≡ partAt (now (counts .entry)) choice n ⌝ }
-{
-    let empty = Part { begin: 0, count: 0 };
-    if counts.len() <= choice {
-        return empty;
-    }
-    let mut begin: usize = 0;
-    let mut k: usize = 0;
-    while k < choice {
-        let more = index_of(counts[k]);
-        if n - begin < more {
-            return empty;
-        }
-        begin += more;
-        k += 1;
-    }
-    let count = index_of(counts[choice]);
-    if n - begin < count {
-        return empty;
-    }
-    if count == 0 {
-        return empty;
-    }
-    Part { begin, count }
-}
-
-// The starts of the chosen outlet, as a part of the list; it is empty where the choice is outside the count list or the
-// counts up to and with its own run past the starts.
-pub fn starts_of<'a>(starts: &'a [u32], counts: &[u32], choice: usize) -> &'a [u32]
-    ensures { λ r. ⌜ ShowsStarts (now (starts .entry)) (starts .entry .ptr) (now (counts .entry)) choice
-        (now r) (r .ptr) ⌝ }
-{
-    let part = part_at(starts.len(), counts, choice);
-    let begin = part.begin;
-    let end = part.begin + part.count;
-    &starts[begin..end]
 }

@@ -3,7 +3,7 @@
 use mathlib.Core.Path.{ap}
 use mathlib.Core.List.{[], _∷_}
 use borrow.Author.Needs.{needs}
-use Rattle.listing.specs.declared.Part.{Part}
+use Rattle.alloutlets.specs.declared.Part.{Part}
 use Rattle.host.proofs.jb_starts_of.Statement.{statement}
 use Rattle.host.proofs.jb_starts_of.Tie as tie
 

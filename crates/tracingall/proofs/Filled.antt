@@ -20,12 +20,12 @@ use Rattle.ground.proofs.AllOutlets.{outlets-cells}
 use Rattle.search.specs.Tracing.{numbersEach}
 use Rattle.answers.specs.Checks.{firstFailed}
 use Rattle.answers.specs.Entries.{Catchment, outletChecks, Subaccumulates, subaccumulateNumber, subaccumulateLeaves}
-use Rattle.answers.specs.AllOutlets.{mostCells}
+use Rattle.alloutlets.specs.AllOutlets.{mostCells}
 use Rattle.moves.proofs.Spots.{size}
 use Rattle.checks.proofs.Passed.{Listed, Sized, sized}
 use Rattle.accumulation.proofs.Subaccumulated.{lengths, good}
 use Rattle.tracing.proofs.Filled.{chosen, ready, in-grid, cells}
-use Rattle.alloutlets.specs.Passes.{Searchable}
+use Rattle.tracingall.specs.Passes.{Searchable}
 
 module _ {c : Catchment} (ours : c .grid .table ≡ table1) {old new : List ℕ} {number : ℕ}
     (s : Subaccumulates c old number new) (z : number ≡ 0) where

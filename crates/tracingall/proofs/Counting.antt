@@ -14,10 +14,10 @@ use Rattle.ground.specs.Grid.{Grid, gridOf}
 use Rattle.ground.specs.Accumulation.{subaccumulation}
 use Rattle.search.specs.Tracing.{pathCount, numbersEach}
 use Rattle.progress.specs.declared.Progress.{Progress}
-use Rattle.answers.specs.AllOutlets.{tracingOf, mostCells}
+use Rattle.alloutlets.specs.AllOutlets.{tracingOf, mostCells, pathCounts}
 use Rattle.tracing.specs.Answering.{cellsOf, Told}
-use Rattle.alloutlets.specs.declared.Sums.{Sums}
-use Rattle.alloutlets.specs.Passes.{Searchable, sumsOf, WorkKept}
+use Rattle.tracingall.specs.declared.Sums.{Sums}
+use Rattle.tracingall.specs.Passes.{Searchable, sumsOf, WorkKept}
 
 -- ---- a search within the working numbers that 20 asks for
 
@@ -127,3 +127,8 @@ module _ (g : Grid) (outlets : List ℕ) where
       let v = adds-all visitedTo j (s .visited) h (c .visited) in
       let d = adds-all droppedTo j (s .dropped) h (c .dropped) in
       λ i. sums (p i) (v i) (d i)
+
+  -- and there are few paths
+  pub few-counted : {j : ℕ} {s : Sums} → length outlets ≤ j → Counting j s → sumOf (map cellsIn outlets) ≤ 2 ^ 24
+      → sumOf (pathCounts g outlets) ≤ 2 ^ 24
+  few-counted {j} {s} h c few = omega (arith, adds-all pathsTo j (s .paths) h (c .paths), c .few, c .cells, few)

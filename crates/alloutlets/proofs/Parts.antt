@@ -10,9 +10,9 @@ use lib.Dec.{eqb, leb, ltb}
 use borrow.Author.Tests.{ne-eqb, le-leb, lt-leb, lt-ltb, le-ltb, leb-true}
 use Rattle.lists.specs.Lists.{sumOf}
 use Rattle.lists.proofs.Sums.{sum-next, sum-more}
-use Rattle.answers.specs.AllOutlets.{startsBefore, partCount, partBegin, startsPart}
-use Rattle.listing.specs.declared.Part.{Part}
-use Rattle.listing.specs.Answering.{partAt}
+use Rattle.alloutlets.specs.Part.{startsBefore, partCount, partBegin, startsPart}
+use Rattle.alloutlets.specs.declared.Part.{Part}
+use Rattle.alloutlets.specs.Part.{partAt}
 
 abbrev empty : Part
 empty = record { begin = 0; count = 0 }

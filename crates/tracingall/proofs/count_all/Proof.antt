@@ -1,15 +1,15 @@
--- `alloutlets::count_all` meets its contract. The invariant: the first j outlets are counted.
+-- `tracingall::count_all` meets its contract. The invariant: the first j outlets are counted.
 -- Assumes nothing.
 use Prim.Native.Nat.{_+_, _-_, _≤_, _^_}
 use native.Mathlib.Omega.{arith}
 use lib.ListN.{length}
 use Rattle.lists.proofs.Kept.{kept-all}
 use Rattle.ground.specs.Grid.{gridOf}
-use Rattle.alloutlets.specs.Passes.{WorkKept}
-use Rattle.alloutlets.proofs.Counting.{Counting, counting-none, counting-more, counting-fits, counted-all}
-use Rattle.alloutlets.proofs.Counting.{has-room, kept-search}
-use Rattle.alloutlets.proofs.count_all.Statement.{statement}
-use Rattle.alloutlets.proofs.count_all.Tie as tie
+use Rattle.tracingall.specs.Passes.{WorkKept}
+use Rattle.tracingall.proofs.Counting.{Counting, counting-none, counting-more, counting-fits, counted-all, few-counted}
+use Rattle.tracingall.proofs.Counting.{has-room, kept-search}
+use Rattle.tracingall.proofs.count_all.Statement.{statement}
+use Rattle.tracingall.proofs.count_all.Tie as tie
 
 abbrev Inv-loop : tie.InvT-loop
 Inv-loop rows cols codes outlets subaccumulation work₀ s₀ j₀ work s j =
@@ -81,10 +81,13 @@ same-length c = c .before .loop .inv .2 .same-length
 
 returns : tie.Need-returns Inv-loop μ-loop
 returns c =
-    let a = c .before .before .before .before .before .before .args in
+    let s = c .before .before .before .before .before .before in
+    let a = s .args in
+    let g = gridOf (a .rows) (a .cols) (a .codes .now) in
     let l = c .before .loop in
     record {
-      counts = counted-all (gridOf (a .rows) (a .cols) (a .codes .now)) (a .outlets .now) (c .loop-test .left) (l .inv .1);
+      counts = counted-all g (a .outlets .now) (c .loop-test .left) (l .inv .1);
+      few-paths = few-counted g (a .outlets .now) (c .loop-test .left) (l .inv .1) (s .pre .few-cells);
       kept = l .inv .2;
     }
 

@@ -1,13 +1,13 @@
--- `alloutlets::search_all` meets its contract.
+-- `tracingall::search_all` meets its contract.
 -- Assumes nothing.
 use native.Mathlib.Omega.{arith}
 use borrow.Author.Needs.{needs}
 use Rattle.lists.proofs.Kept.{kept-then}
 use Rattle.ground.specs.Grid.{gridOf}
-use Rattle.alloutlets.proofs.Counting.{kept-searchable}
-use Rattle.alloutlets.proofs.Deciding.{clears-all, total, searched-21, searched-0}
-use Rattle.alloutlets.proofs.search_all.Statement.{statement}
-use Rattle.alloutlets.proofs.search_all.Tie as tie
+use Rattle.tracingall.proofs.Counting.{kept-searchable}
+use Rattle.tracingall.proofs.Deciding.{clears-all, total, searched-21, searched-0}
+use Rattle.tracingall.proofs.search_all.Statement.{statement}
+use Rattle.tracingall.proofs.search_all.Tie as tie
 
 -- the function's start, seen from after the count
 abbrev start : tie.After-count-all → tie.Start
@@ -52,6 +52,7 @@ list-all-requires c κs =
       kept-searchable (s .pre .0) (t .count-all .ensures .kept),
       (
         omega (arith, e .if1 .left, total g (a .outlets .now) (t .count-all .ensures .counts) (i .index-of .ensures .0)),
+        t .count-all .ensures .few-paths,
         s .pre .1 .1,
       ),
     )

@@ -22,21 +22,22 @@ use Rattle.ground.proofs.AllOutlets.{outlets-ground}
 use Rattle.search.specs.Tracing.{pathCount, startCells, tracing}
 use Rattle.search.specs.Demand.{anyCell, Demand3}
 use Rattle.search.proofs.Demand3.{demand3}
 use Rattle.answers.specs.Checks.{Check, check10, check11, check12, check14, check15, check16, check17}
 use Rattle.answers.specs.Checks.{check20, check21, check23}
 use Rattle.answers.specs.declared.Traced.{Traced}
-use Rattle.answers.specs.declared.TracedAll.{TracedAll}
+use Rattle.alloutlets.specs.declared.TracedAll.{TracedAll}
 use Rattle.answers.specs.Entries.{Catchment, outletChecks}
-use Rattle.answers.specs.AllOutlets.{LentAll, tracingOf, allStarts, pathCounts, allVisited, allDropped}
-use Rattle.answers.specs.AllOutlets.{traceAllNumber, tellsAll, leavesAll, TracesAll, startsBefore, partCount}
-use Rattle.answers.specs.AllOutlets.{mostCells, tracedAll, startsPart}
+use Rattle.alloutlets.specs.AllOutlets.{LentAll, tracingOf, allStarts, pathCounts, allVisited, allDropped}
+use Rattle.alloutlets.specs.AllOutlets.{traceAllNumber, tellsAll, leavesAll, TracesAll}
+use Rattle.alloutlets.specs.AllOutlets.{mostCells, tracedAll}
+use Rattle.alloutlets.specs.Part.{startsBefore, partCount, startsPart}
 use Rattle.answers.specs.declared.Answer.{Answer}
 use Rattle.answers.specs.Answers.{numberOf, inNumbers}
 use Rattle.answers.specs.Tracings.{Lent}
 use Rattle.answers.specs.Seen.{SearchCounts, Way}
-use Rattle.answers.specs.AllSeen.{alone, SearchedAlone, SumsSeen, PartSeen, AllSeen}
+use Rattle.alloutlets.specs.Seen.{alone, SearchedAlone, SumsSeen, PartSeen, AllSeen}
 use Rattle.answers.proofs.FirstFailed.{all-every, passed}
 use Rattle.answers.proofs.Accepted.{seen-way}
 
 module _ (g : Grid) (outlets : List ℕ) where
   -- as many starts as paths

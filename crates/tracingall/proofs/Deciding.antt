@@ -16,16 +16,16 @@ use Rattle.lists.proofs.Overlaid.{cleared-front}
 use Rattle.ground.specs.Grid.{Grid}
 use Rattle.search.specs.Tracing.{pathCount, numbersEach}
 use Rattle.ground.specs.Accumulation.{subaccumulations}
-use Rattle.answers.specs.declared.TracedAll.{TracedAll}
+use Rattle.alloutlets.specs.declared.TracedAll.{TracedAll}
 use Rattle.answers.specs.Checks.{Check, firstFailed, check20, check21, check23}
 use Rattle.answers.specs.Entries.{Catchment, Subaccumulates, subaccumulateNumber, subaccumulateLeaves}
-use Rattle.answers.specs.AllOutlets.{LentAll, lentAll, mostCells, pathCounts, tracedAll, traceAllNumber, tellsAll}
-use Rattle.answers.specs.AllOutlets.{leavesAll, tracingOf, allStarts, TracesAll}
+use Rattle.alloutlets.specs.AllOutlets.{LentAll, lentAll, mostCells, pathCounts, tracedAll, traceAllNumber, tellsAll}
+use Rattle.alloutlets.specs.AllOutlets.{leavesAll, tracingOf, allStarts, TracesAll}
 use Rattle.answers.proofs.FirstFailed.{handed-on}
 use Rattle.checks.proofs.Passed.{beyond-outlets, outlets-at-most}
 use Rattle.accumulation.proofs.Subaccumulated.{before}
-use Rattle.alloutlets.specs.declared.Sums.{Sums}
-use Rattle.alloutlets.specs.Passes.{sumsOf, WorkKept, ListsAll, numberFor, SearchesAll}
+use Rattle.tracingall.specs.declared.Sums.{Sums}
+use Rattle.tracingall.specs.Passes.{sumsOf, WorkKept, ListsAll, numberFor, SearchesAll}
 
 module _ (g : Grid) (outlets : List ℕ) where
   abbrev asked : ℕ

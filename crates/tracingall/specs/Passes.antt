@@ -12,10 +12,10 @@ use Rattle.ground.specs.Grid.{Grid, gridOf}
 use Rattle.ground.specs.Accumulation.{subaccumulation}
 use Rattle.search.specs.Tracing.{numbersEach}
 use Rattle.upstream.specs.Ready.{Ready}
-use Rattle.answers.specs.declared.TracedAll.{TracedAll}
-use Rattle.answers.specs.AllOutlets.{mostCells, allStarts, pathCounts, allVisited, allDropped, tellsAll}
+use Rattle.alloutlets.specs.declared.TracedAll.{TracedAll}
+use Rattle.alloutlets.specs.AllOutlets.{mostCells, allStarts, pathCounts, allVisited, allDropped, tellsAll}
 use Rattle.tracing.specs.Preparing.{Chosen}
-use Rattle.alloutlets.specs.declared.Sums.{Sums}
+use Rattle.tracingall.specs.declared.Sums.{Sums}
 
 -- every outlet can be searched: the grid holds the subaccumulation, each place of the list asks for a cell of ground,
 -- outlets and the cells of all together are few, and the working space has room for those of any one
@@ -41,6 +41,7 @@ module _ (g : Grid) (outlets : List ℕ) where
 
   pub record CountsAll (work : List ℕ) (r : Sums) (space : List ℕ) : Type 0 where
     pub counts : r ≡ sumsOf
+    pub few-paths : sumOf (pathCounts g outlets) ≤ 2 ^ 24
     pub kept : WorkKept work space
 
   pub record ListsAll (starts counts work starts′ counts′ space : List ℕ) : Type 0 where

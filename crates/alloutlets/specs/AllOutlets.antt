@@ -1,20 +1,19 @@
--- What tracing all outlets in one call answers, what it leaves in the lent grid, lists and working space, and the part
--- of the list that shows one outlet's starts.
+-- What tracing all outlets in one call answers, and what it leaves in the lent grid, lists and working space.
 -- Assumes nothing.
 use mathlib.Core.Path.{_≡_}
-use mathlib.Core.Bool.{true, cond, _&&_}
+use mathlib.Core.Bool.{true, cond}
 use mathlib.Core.List.{List, [], _∷_, _++_, map}
-use Prim.Native.Nat.{ℕ, _+_, _*_, _<_}
-use lib.ListN.{length, getD, take, drop}
-use lib.Dec.{eqb, leb, ltb}
+use Prim.Native.Nat.{ℕ, _+_, _*_}
+use lib.ListN.{length}
+use lib.Dec.{eqb}
 use Rattle.lists.specs.Lists.{member, sumOf, greatestOf, joined}
 use Rattle.lists.specs.Slices.{overlaid, zeros}
 use Rattle.ground.specs.Grid.{Grid}
 use Rattle.ground.specs.Accumulation.{subaccumulation, subaccumulations}
 use Rattle.search.specs.Tracing.{Tracing, pathCount, startCells, tracing, numbersEach}
-use Rattle.answers.specs.declared.TracedAll.{TracedAll}
+use Rattle.alloutlets.specs.declared.TracedAll.{TracedAll}
 use Rattle.answers.specs.Checks.{firstFailed, check20, check21, check23}
 use Rattle.answers.specs.Entries.{Catchment, outletChecks}
 
 -- what the call is lent to fill: the subaccumulation grid, the list of starts, the list of counts, the working space
 pub record LentAll : Type 0 where
@@ -84,30 +83,3 @@ module _ (g : Grid) (outlets : List ℕ) where
 pub record TracesAll (c : Catchment) (old : LentAll) (r : TracedAll) (new : LentAll) : Type 0 where
   pub answers : r ≡ tellsAll (c .grid) (c .outlets) (traceAllNumber c old)
   pub leaves : new ≡ leavesAll (c .grid) (c .outlets) (traceAllNumber c old) old
-
--- ---- THE STARTS OF ONE OUTLET, as a part of the list. The counts are lent numbers and may be any
-
-module _ (counts : List ℕ) (choice : ℕ) where
-  -- the counts before its own
-  abbrev pub startsBefore : ℕ
-  startsBefore = sumOf (take choice counts)
-
-  -- how many starts the part shows of a list of n: its own count, but none where the choice is outside the count list or
-  -- the counts up to and with its own run past the starts
-  unfoldable pub partCount : ℕ → ℕ
-  partCount n =
-      cond (ltb choice (length counts) && leb (startsBefore + getD counts choice 0) n) (getD counts choice 0) 0
-
-  -- where it begins in the list; 0 is told of an empty part
-  unfoldable pub partBegin : ℕ → ℕ
-  partBegin n = cond (eqb (partCount n) 0) 0 startsBefore
-
-abbrev pub startsPart : List ℕ → List ℕ → ℕ → List ℕ
-startsPart starts counts choice = take (partCount counts choice (length starts)) (drop (startsBefore counts choice) starts)
-
--- what is handed back of a list that lies at a block of memory and an offset of bytes: the part holds the outlet's starts
--- and, where there are any, begins at the first of them. Where an empty part begins is left open
-pub record ShowsStarts (starts : List ℕ) (at : ℕ × ℕ) (counts : List ℕ) (choice : ℕ) (part : List ℕ) (begin : ℕ × ℕ)
-    : Type 0 where
-  pub holds : part ≡ startsPart starts counts choice
-  pub begins : 0 < length part → begin ≡ (at .0, at .1 + 4 * startsBefore counts choice)

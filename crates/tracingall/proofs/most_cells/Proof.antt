@@ -1,4 +1,4 @@
--- `alloutlets::most_cells` meets its contract. The invariant: the most so far, or that of the outlets that are left, is
+-- `tracingall::most_cells` meets its contract. The invariant: the most so far, or that of the outlets that are left, is
 -- the most of all.
 -- Assumes nothing.
 use mathlib.Core.Path.{_≡_, ap}
@@ -11,8 +11,8 @@ use borrow.Author.Needs.{needs}
 use lib.ListN.{length, getD, drop, drop-of-length-le}
 use Rattle.lists.specs.Lists.{greatestOf}
 use Rattle.lists.proofs.Sums.{greatest-left}
-use Rattle.alloutlets.proofs.most_cells.Statement.{statement}
-use Rattle.alloutlets.proofs.most_cells.Tie as tie
+use Rattle.tracingall.proofs.most_cells.Statement.{statement}
+use Rattle.tracingall.proofs.most_cells.Tie as tie
 
 abbrev Inv-loop : tie.InvT-loop
 Inv-loop outlets subaccumulation most₀ j₀ most j =

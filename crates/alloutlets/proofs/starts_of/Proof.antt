@@ -1,13 +1,13 @@
--- `listing::starts_of` meets its contract.
+-- `alloutlets::starts_of` meets its contract.
 -- Assumes nothing.
 use mathlib.Core.Path.{ap}
 use Prim.Native.Nat.{ℕ, _+_, _≤_}
 use native.Mathlib.Omega.{arith}
 use lib.ListN.{length}
 use borrow.Author.Needs.{needs}
-use Rattle.listing.proofs.Parts.{part-within, part-begins, part-some, part-is}
-use Rattle.listing.proofs.starts_of.Statement.{statement}
-use Rattle.listing.proofs.starts_of.Tie as tie
+use Rattle.alloutlets.proofs.Parts.{part-within, part-begins, part-some, part-is}
+use Rattle.alloutlets.proofs.starts_of.Statement.{statement}
+use Rattle.alloutlets.proofs.starts_of.Tie as tie
 
 part-at-requires : tie.Need-part-at-requires
 part-at-requires c κs = search needs

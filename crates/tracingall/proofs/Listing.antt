@@ -12,9 +12,9 @@ use Rattle.lists.specs.Slices.{overlaid}
 use Rattle.lists.proofs.Overlaid.{overlaid-front, sets-after, sets-overlaid}
 use Rattle.lists.proofs.Sums.{joined-left, sum-left}
 use Rattle.ground.specs.Grid.{Grid}
-use Rattle.answers.specs.AllOutlets.{allStarts, pathCounts}
-use Rattle.answers.proofs.AllOutlets.{startsTo, long-starts, all-long}
-use Rattle.alloutlets.proofs.Counting.{pathsTo, Adds}
+use Rattle.alloutlets.specs.AllOutlets.{allStarts, pathCounts}
+use Rattle.alloutlets.proofs.AllOutlets.{startsTo, long-starts, all-long}
+use Rattle.tracingall.proofs.Counting.{pathsTo, Adds}
 
 -- numbers written to the part of a list from a place on
 pub put-part : (xs cs : List ℕ) (a : ℕ) {ys : List ℕ} → a + length cs ≤ length xs
@@ -62,16 +62,20 @@ module _ (g : Grid) (outlets : List ℕ) where
       pub within : from + pathsTo g outlets (getD outlets j 0) ≤ length starts
       within = omega (arith, l .before, l .same-starts, room, sum-left (pathsTo g outlets) outlets j i)
 
-      pub listing-more : {starts′ : List ℕ} (count paths : ℕ) → starts′ ≡ sets starts from (startsTo g outlets (getD outlets j 0))
-          → count ≡ pathsTo g outlets (getD outlets j 0) → paths ≡ count
-          → Listing starts₀ counts₀ (j + 1) (from + paths) starts′ (set counts j count)
-      listing-more {starts′} count paths e q p = record {
-        before = rw (add-one j) (omega (arith, l .before, q, p, sum-left (pathsTo g outlets) outlets j i));
+      pub fits-all : from + pathsTo g outlets (getD outlets j 0) ≤ sumOf (pathCounts g outlets)
+      fits-all = omega (arith, l .before, sum-left (pathsTo g outlets) outlets j i)
+
+      pub listing-more : {starts′ : List ℕ} (count : ℕ)
+          → starts′ ≡ sets starts from (startsTo g outlets (getD outlets j 0))
+          → count ≡ pathsTo g outlets (getD outlets j 0)
+          → Listing starts₀ counts₀ (j + 1) (from + count) starts′ (set counts j count)
+      listing-more {starts′} count e q = record {
+        before = rw (add-one j) (omega (arith, l .before, q, sum-left (pathsTo g outlets) outlets j i));
         same-starts = ap length e ∙ length-sets starts from (startsTo g outlets (getD outlets j 0)) ∙ l .same-starts;
         same-counts = length-set counts j count ∙ l .same-counts;
-        starts-left = rw (add-one j, e, p, q, sym (long-starts g outlets (getD outlets j 0))) (
-            sets-after (startsTo g outlets (getD outlets j 0)) (joined (map (startsTo g outlets) (drop (suc j) outlets))) starts from
-            ∙ ap (sets starts from) (sym (joined-left (startsTo g outlets) outlets j i)) ∙ l .starts-left
+        starts-left = rw (add-one j, e, q, sym (long-starts g outlets (getD outlets j 0))) (
+            sets-after (startsTo g outlets (getD outlets j 0)) (joined (map (startsTo g outlets) (drop (suc j) outlets)))
+            starts from ∙ ap (sets starts from) (sym (joined-left (startsTo g outlets) outlets j i)) ∙ l .starts-left
             );
         counts-left = rw (add-one j, q) (
             ap (λ (os : List ℕ). sets counts j (map (pathsTo g outlets) os)) (sym (drop-cons outlets j 0 i))

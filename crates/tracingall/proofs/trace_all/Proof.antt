@@ -1,16 +1,16 @@
--- `alloutlets::trace_all` meets its contract.
+-- `tracingall::trace_all` meets its contract.
 -- Assumes nothing.
 use mathlib.Core.Path.{_≡_, refl}
 use Prim.Native.Nat.{_*_}
 use native.Mathlib.Omega.{arith}
 use borrow.Author.Needs.{needs}
 use Rattle.answers.specs.Entries.{Catchment, catchment}
-use Rattle.answers.specs.AllOutlets.{LentAll, lentAll, mostCells}
+use Rattle.alloutlets.specs.AllOutlets.{LentAll, lentAll, mostCells}
 use Rattle.search.specs.Tracing.{numbersEach}
-use Rattle.alloutlets.proofs.Filled.{outlets-within, most-is, searchable}
-use Rattle.alloutlets.proofs.Deciding.{all-first, all-20, all-23, all-searched}
-use Rattle.alloutlets.proofs.trace_all.Statement.{statement}
-use Rattle.alloutlets.proofs.trace_all.Tie as tie
+use Rattle.tracingall.proofs.Filled.{outlets-within, most-is, searchable}
+use Rattle.tracingall.proofs.Deciding.{all-first, all-20, all-23, all-searched}
+use Rattle.tracingall.proofs.trace_all.Statement.{statement}
+use Rattle.tracingall.proofs.trace_all.Tie as tie
 
 -- the function's start, seen from after the grid is filled; what is read, and what is lent
 abbrev start : tie.After-subaccumulate → tie.Start

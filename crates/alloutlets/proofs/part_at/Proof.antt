@@ -1,4 +1,4 @@
--- `listing::part_at` meets its contract. The invariant: the part would begin after the first k counts.
+-- `alloutlets::part_at` meets its contract. The invariant: the part would begin after the first k counts.
 -- Assumes nothing.
 use mathlib.Core.Path.{_≡_, sym, ap, _∙_}
 use Prim.Native.Nat.{ℕ, _+_, _-_, _≤_}
@@ -8,10 +8,10 @@ use borrow.Author.Needs.{needs}
 use lib.ListN.{getD, take}
 use Rattle.lists.specs.Lists.{sumOf}
 use Rattle.lists.proofs.Sums.{sum-next}
-use Rattle.answers.specs.AllOutlets.{startsBefore}
-use Rattle.listing.proofs.Parts.{shows-outside, shows-early, shows-past, shows-none, shows-own}
-use Rattle.listing.proofs.part_at.Statement.{statement}
-use Rattle.listing.proofs.part_at.Tie as tie
+use Rattle.alloutlets.specs.Part.{startsBefore}
+use Rattle.alloutlets.proofs.Parts.{shows-outside, shows-early, shows-past, shows-none, shows-own}
+use Rattle.alloutlets.proofs.part_at.Statement.{statement}
+use Rattle.alloutlets.proofs.part_at.Tie as tie
 
 abbrev Inv-loop : tie.InvT-loop
 Inv-loop n counts choice empty begin₀ k₀ begin k = (k ≤ choice) × (begin ≡ sumOf (take k counts)) × (begin ≤ n)

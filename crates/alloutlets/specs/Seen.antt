@@ -8,13 +8,14 @@ use Prim.Native.Nat.{ℕ, _+_, _≤_, _<_}
 use lib.ListN.{length, getD, take}
 use Rattle.lists.specs.Lists.{sumOf, howMany}
 use Rattle.ground.specs.Grid.{cellCount, ground}
 use Rattle.answers.specs.declared.Traced.{Traced}
-use Rattle.answers.specs.declared.TracedAll.{TracedAll}
+use Rattle.alloutlets.specs.declared.TracedAll.{TracedAll}
 use Rattle.answers.specs.Answers.{numberOf, inNumbers}
 use Rattle.answers.specs.Entries.{Catchment}
 use Rattle.answers.specs.Tracings.{Call, Lent}
-use Rattle.answers.specs.AllOutlets.{LentAll, startsPart}
+use Rattle.alloutlets.specs.AllOutlets.{LentAll}
+use Rattle.alloutlets.specs.Part.{startsPart}
 use Rattle.answers.specs.Seen.{LongestStarts, Way}
 
 module _ (c : Catchment) where
   -- a call for the outlet at a place alone, with dropping
@@ -38,17 +39,17 @@ module _ (c : Catchment) where
 
   -- the part of the list at a place of the count list
   module _ (new : LentAll) (i : ℕ) where
-    abbrev pub partAt : List ℕ
-    partAt = startsPart (new .starts) (new .counts) i
+    abbrev pub partOf : List ℕ
+    partOf = startsPart (new .starts) (new .counts) i
 
     -- it is exactly the longest starts of that outlet, each once, in order, as many as its count; and it is the list that
     -- a call for the outlet alone leaves, where that call is accepted
     pub record PartSeen : Type 0 where
-      pub longest : LongestStarts c (getD (c .outlets) i 0) partAt
-      pub counted : getD (new .counts) i 0 ≡ length partAt
+      pub longest : LongestStarts c (getD (c .outlets) i 0) partOf
+      pub counted : getD (new .counts) i 0 ≡ length partOf
       pub as-alone : {r : Traced} {left : Lent} → Way (alone i) r left → numberOf (r .answer) ≡ 0
           → (getD (new .counts) i 0 ≡ inNumbers (r .answer) .paths)
-          × (partAt ≡ take (inNumbers (r .answer) .paths) (left .starts))
+          × (partOf ≡ take (inNumbers (r .answer) .paths) (left .starts))
 
   -- what every call promises a buyer
   pub record AllSeen (r : TracedAll) (new : LentAll) : Type 0 where

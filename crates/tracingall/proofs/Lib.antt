@@ -1,0 +1,4 @@
+pub mod Counting
+pub mod Listing
+pub mod Filled
+pub mod Deciding

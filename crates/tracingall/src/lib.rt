@@ -1,0 +1,215 @@
+// All outlets of a list traced from one reading of the grid.
+use accumulation::subaccumulate;
+use alloutlets::TracedAll;
+use lists::clear;
+use lists::index_of;
+use stack::NUMBERS_EACH;
+use tracing::list_at;
+use tracing::search_at;
+ghost use mathlib.Core.Path.{_≡_};
+ghost use mathlib.Core.List.{map};
+ghost use Prim.Native.Nat.{_*_, _≤_, _^_};
+ghost use lib.ListN.{length, getD};
+ghost use Rattle.lists.specs.Lists.{sumOf, greatestOf};
+ghost use Rattle.lists.specs.Slices.{Within};
+ghost use Rattle.ground.specs.Grid.{gridOf};
+ghost use Rattle.search.specs.Tracing.{numbersEach};
+ghost use Rattle.answers.specs.Entries.{catchment};
+ghost use Rattle.alloutlets.specs.AllOutlets.{mostCells, pathCounts, tracedAll, lentAll, TracesAll};
+ghost use Rattle.tracingall.specs.Passes.{Searchable, CountsAll, ListsAll, SearchesAll};
+
+// The longest paths, the cells visited and the cells dropped, over the outlets searched.
+pub struct Sums {
+    pub paths: u32,
+    pub visited: u32,
+    pub dropped: u32,
+}
+
+// The most cells that an outlet of the list has, in a grid that holds the subaccumulation.
+fn most_cells(outlets: &[u32], subaccumulation: &[u32]) -> u32
+    requires { ⌜ Within (length (now subaccumulation)) (now outlets) ⌝ }
+    ensures { λ r. ⌜ r
+        ≡ greatestOf (map (λ o. getD (now (subaccumulation .entry)) o 0) (now (outlets .entry))) ⌝ }
+{
+    let mut most: u32 = 0;
+    let mut j: usize = 0;
+    while j < outlets.len() {
+        let at = index_of(outlets[j]);
+        let cells = subaccumulation[at];
+        if most < cells {
+            most = cells;
+        }
+        j += 1;
+    }
+    most
+}
+
+// Searches each outlet, and adds up what it finds.
+fn count_all(
+    rows: usize,
+    cols: usize,
+    codes: &[u8],
+    outlets: &[u32],
+    subaccumulation: &[u32],
+    work: &mut [u32],
+) -> Sums
+    requires { ⌜ Searchable rows cols (now codes) (now outlets) (now subaccumulation) (now work) ⌝ }
+    ensures { λ r. ⌜ CountsAll (gridOf rows cols (now (codes .entry))) (now (outlets .entry)) (now (work .entry))
+        r (now (work .exit)) ⌝ }
+{
+    let mut s = Sums {
+        paths: 0,
+        visited: 0,
+        dropped: 0,
+    };
+    let mut j: usize = 0;
+    while j < outlets.len() {
+        let p = search_at(rows, cols, codes, outlets, subaccumulation, true, j, work);
+        s = Sums {
+            paths: s.paths + p.paths,
+            visited: s.visited + p.visited,
+            dropped: s.dropped + p.dropped,
+        };
+        j += 1;
+    }
+    s
+}
+
+// Searches each outlet once more, and writes its starts after those before it, and their count.
+fn list_all(
+    rows: usize,
+    cols: usize,
+    codes: &[u8],
+    outlets: &[u32],
+    subaccumulation: &[u32],
+    starts: &mut [u32],
+    counts: &mut [u32],
+    work: &mut [u32],
+)
+    requires { ⌜ Searchable rows cols (now codes) (now outlets) (now subaccumulation) (now work) ⌝ }
+    requires { ⌜ (sumOf (pathCounts (gridOf rows cols (now codes)) (now outlets)) ≤ length (now starts))
+        × (sumOf (pathCounts (gridOf rows cols (now codes)) (now outlets)) ≤ 2 ^ 24)
+        × (length (now outlets) ≤ length (now counts)) ⌝ }
+    ensures { λ _. ⌜ ListsAll (gridOf rows cols (now (codes .entry))) (now (outlets .entry)) (now (starts .entry))
+        (now (counts .entry)) (now (work .entry)) (now (starts .exit)) (now (counts .exit)) (now (work .exit)) ⌝ }
+{
+    let mut total: u32 = 0;
+    let mut j: usize = 0;
+    while j < outlets.len() {
+        let from = index_of(total);
+        let p = list_at(
+            rows,
+            cols,
+            codes,
+            outlets,
+            subaccumulation,
+            true,
+            j,
+            &mut starts[from..],
+            work,
+        );
+        counts[j] = p.paths;
+        total += p.paths;
+        j += 1;
+    }
+}
+
+// Past 23: all outlets are counted, and listed if there is room for all; then the working numbers are cleared.
+fn search_all(
+    rows: usize,
+    cols: usize,
+    codes: &[u8],
+    outlets: &[u32],
+    subaccumulation: &[u32],
+    end: usize,
+    starts: &mut [u32],
+    counts: &mut [u32],
+    work: &mut [u32],
+) -> TracedAll
+    requires { ⌜ Searchable rows cols (now codes) (now outlets) (now subaccumulation) (now work) ⌝ }
+    requires { ⌜ (end ≡ numbersEach * mostCells (gridOf rows cols (now codes)) (now outlets))
+        × (length (now outlets) ≤ length (now counts)) ⌝ }
+    ensures { λ r. ⌜ SearchesAll (gridOf rows cols (now (codes .entry))) (now (outlets .entry)) (now (starts .entry))
+        (now (counts .entry)) (now (work .entry)) r (now (starts .exit)) (now (counts .exit)) (now (work .exit)) ⌝ }
+{
+    let s = count_all(rows, cols, codes, outlets, subaccumulation, work);
+    let visited = s.visited;
+    let dropped = s.dropped;
+    if starts.len() < index_of(s.paths) {
+        clear(end, work);
+        return TracedAll {
+            number: 21,
+            visited,
+            dropped,
+        };
+    }
+    list_all(
+        rows,
+        cols,
+        codes,
+        outlets,
+        subaccumulation,
+        starts,
+        counts,
+        work,
+    );
+    clear(end, work);
+    TracedAll {
+        number: 0,
+        visited,
+        dropped,
+    }
+}
+
+// Refused before the searches.
+fn refused_all(number: u32) -> TracedAll
+    ensures { λ r. ⌜ r ≡ tracedAll number 0 0 ⌝ }
+{
+    TracedAll {
+        number,
+        visited: 0,
+        dropped: 0,
+    }
+}
+
+// Traces all longest paths to each outlet of the list from pending cells, with dropping: 10, 11, 12, 14 to 17, 20, 23,
+// 21. The grid is filled once 17 is past.
+pub fn trace_all(
+    rows: usize,
+    cols: usize,
+    codes: &[u8],
+    accumulation: &[u32],
+    outlets: &[u32],
+    subaccumulation: &mut [u32],
+    starts: &mut [u32],
+    counts: &mut [u32],
+    work: &mut [u32],
+) -> TracedAll
+    ensures { λ r. ⌜ TracesAll
+        (catchment rows cols (now (codes .entry)) (now (accumulation .entry)) (now (outlets .entry)))
+        (lentAll (now (subaccumulation .entry)) (now (starts .entry)) (now (counts .entry)) (now (work .entry))) r
+        (lentAll (now (subaccumulation .exit)) (now (starts .exit)) (now (counts .exit)) (now (work .exit))) ⌝ }
+{
+    let number = subaccumulate(rows, cols, codes, accumulation, outlets, subaccumulation);
+    if number != 0 {
+        return refused_all(number);
+    }
+    let end = NUMBERS_EACH * index_of(most_cells(outlets, subaccumulation));
+    if work.len() < end {
+        return refused_all(20);
+    }
+    if counts.len() < outlets.len() {
+        return refused_all(23);
+    }
+    search_all(
+        rows,
+        cols,
+        codes,
+        outlets,
+        subaccumulation,
+        end,
+        starts,
+        counts,
+        work,
+    )
+}
