@@ -10,7 +10,7 @@ use lib.ListN.{length, getD, take, drop, length-map}
 use lib.Seq.{take-all, take-append-le, length-take-le}
 use lib.Dec.{ltb}
 use borrow.Author.Tests.{lt-ltb, le-leb, leb-true}
-use Rattle.lists.specs.Lists.{Every, member, different, sumOf, howMany}
+use Rattle.lists.specs.Lists.{Every, different, sumOf, howMany}
 use Rattle.lists.specs.Slices.{overlaid}
 use Rattle.lists.proofs.Lists.{and-both, every-map, every-at, every-placed, getD-map}
 use Rattle.lists.proofs.Members.{member-at, different-sorted}
@@ -29,7 +29,7 @@ use Rattle.alloutlets.specs.declared.TracedAll.{TracedAll}
 use Rattle.answers.specs.Entries.{Catchment, outletChecks}
 use Rattle.alloutlets.specs.AllOutlets.{LentAll, tracingOf, allStarts, pathCounts, allVisited, allDropped}
 use Rattle.alloutlets.specs.AllOutlets.{traceAllNumber, tellsAll, leavesAll, TracesAll}
-use Rattle.alloutlets.specs.AllOutlets.{mostCells, tracedAll}
+use Rattle.alloutlets.specs.AllOutlets.{tracedAll, lastChecks, sumsTold}
 use Rattle.alloutlets.specs.Part.{startsBefore, partCount, startsPart}
 use Rattle.answers.specs.declared.Answer.{Answer}
 use Rattle.answers.specs.Answers.{numberOf, inNumbers}
@@ -113,14 +113,14 @@ module _ (g : Grid) (outlets : List ℕ) where
 
 -- ---- what is seen of a call
 
+either-number : (b : Bool) (n v d : ℕ) → (cond b (tracedAll n v d) (tracedAll n 0 0)) .number ≡ n
+either-number true n v d = refl
+either-number false n v d = refl
+
 -- the answer's number is the number of the first check that fails
 told-number : (g : Grid) (outlets : List ℕ) (n : ℕ) → tellsAll g outlets n .number ≡ n
 unfolding tellsAll
-told-number g outlets n = go (member n (0 ∷ 21 ∷ []))
-  where
-    go : (b : Bool) → (cond b (tracedAll n (allVisited g outlets) (allDropped g outlets)) (tracedAll n 0 0)) .number ≡ n
-    go true = refl
-    go false = refl
+told-number g outlets n = either-number (sumsTold n) n (allVisited g outlets) (allDropped g outlets)
 
 -- none of the checks before 20 gives 0 or 21
 apart-from : (n : ℕ) → (n ≡ 0) ⊎ (n ≡ 21) → (n < 10) ⊎ (17 < n)
@@ -134,10 +134,6 @@ module _ (c : Catchment) (old : LentAll) where
   abbrev before : List Check
   before = outletChecks c (length (c .accumulation) ∷ length (old .subaccumulation) ∷ [])
 
-  abbrev later : List Check
-  later = check20 (mostCells land (c .outlets)) (old .work) ∷ check23 (pathCounts land (c .outlets)) (old .counts)
-      ∷ check21 (sumOf (pathCounts land (c .outlets))) (old .starts) ∷ []
-
   -- past 17, every outlet is traced as demand 3 says
   pub record Sound : Type 0 where
     pub agreement : agrees land (c .accumulation) ≡ true
@@ -147,7 +143,7 @@ module _ (c : Catchment) (old : LentAll) where
   sound : (n : ℕ) → (n ≡ 0) ⊎ (n ≡ 21) → traceAllNumber c old ≡ n → Sound
   unfolding traceAllNumber check10 check11 check12 check14 check15 check16 check17
   sound n i e =
-      let p = passed 17 n before later refl (apart-from n i) e in
+      let p = passed 17 n before (lastChecks c old) refl (apart-from n i) e in
       record {
         agreement = p 14;
         on-ground = every-map (λ o. (ltb o (cellCount land) && ground land o) ≡ true) (λ o. ground land o ≡ true)
@@ -218,7 +214,7 @@ module _ (c : Catchment) (old : LentAll) where
           × (length (c .outlets) ≤ length (old .counts))
       unfolding traceAllNumber check10 check11 check12 check14 check15 check16 check17 check20 check21 check23
       room =
-          let p = passed 23 0 (before ++ later) [] refl (inl (omega arith)) (number-is z) in
+          let p = passed 23 0 (before ++ lastChecks c old) [] refl (inl (omega arith)) (number-is z) in
           let q = leb-true (length (pathCounts land (c .outlets))) (length (old .counts)) (p 23) in (
             leb-true (sumOf (pathCounts land (c .outlets))) (length (old .starts)) (p 21),
             omega (arith, q, length-map (c .outlets) (λ o. pathCount (tracingOf land (c .outlets) o))),

@@ -1,7 +1,7 @@
 -- What tracing all outlets in one call answers, and what it leaves in the lent grid, lists and working space.
 -- Assumes nothing.
 use mathlib.Core.Path.{_≡_}
-use mathlib.Core.Bool.{true, cond}
+use mathlib.Core.Bool.{Bool, true, cond}
 use mathlib.Core.List.{List, [], _∷_, _++_, map}
 use Prim.Native.Nat.{ℕ, _+_, _*_}
 use lib.ListN.{length}
@@ -12,7 +12,7 @@ use Rattle.ground.specs.Grid.{Grid}
 use Rattle.ground.specs.Accumulation.{subaccumulation, subaccumulations}
 use Rattle.search.specs.Tracing.{Tracing, pathCount, startCells, tracing, numbersEach}
 use Rattle.alloutlets.specs.declared.TracedAll.{TracedAll}
-use Rattle.answers.specs.Checks.{firstFailed, check20, check21, check23}
+use Rattle.answers.specs.Checks.{Check, firstFailed, check20, check21, check23}
 use Rattle.answers.specs.Entries.{Catchment, outletChecks}
 
 -- what the call is lent to fill: the subaccumulation grid, the list of starts, the list of counts, the working space
@@ -52,21 +52,27 @@ module _ (g : Grid) (outlets : List ℕ) where
   abbrev pub allDropped : ℕ
   allDropped = sumOf (map (λ o. tracingOf o .dropped) outlets)
 
--- TRACE ALL: 10, 11 of three grids, 12, 14 to 17, 20 by the most cells, 23 by the counts, 21 by all paths together
+-- past 17: 20 by the most cells, 23 by the counts, 21 by all paths together
+abbrev pub lastChecks : Catchment → LentAll → List Check
+lastChecks c old =
+    check20 (mostCells (c .grid) (c .outlets)) (old .work)
+    ∷ check23 (pathCounts (c .grid) (c .outlets)) (old .counts)
+    ∷ check21 (sumOf (pathCounts (c .grid) (c .outlets))) (old .starts) ∷ []
+
+-- TRACE ALL: 10, 11 of three grids, 12, 14 to 17, 20, 23, 21
 unfoldable pub traceAllNumber : Catchment → LentAll → ℕ
 traceAllNumber c old = firstFailed (
-    outletChecks c (length (c .accumulation) ∷ length (old .subaccumulation) ∷ [])
-    ++ (check20 (mostCells (c .grid) (c .outlets)) (old .work)
-    ∷ check23 (pathCounts (c .grid) (c .outlets)) (old .counts)
-    ∷ check21 (sumOf (pathCounts (c .grid) (c .outlets))) (old .starts) ∷ [])
+    outletChecks c (length (c .accumulation) ∷ length (old .subaccumulation) ∷ []) ++ lastChecks c old
     )
 
+-- the sums are told with 0 and 21, and are 0 with every other number
+abbrev pub sumsTold : ℕ → Bool
+sumsTold number = member number (0 ∷ 21 ∷ [])
+
 module _ (g : Grid) (outlets : List ℕ) where
-  -- the sums are told with 0 and 21, and are 0 with every other number
   unfoldable pub tellsAll : ℕ → TracedAll
   tellsAll number =
-      cond (member number (0 ∷ 21 ∷ [])) (tracedAll number (allVisited g outlets) (allDropped g outlets))
-      (tracedAll number 0 0)
+      cond (sumsTold number) (tracedAll number (allVisited g outlets) (allDropped g outlets)) (tracedAll number 0 0)
 
   -- what is left. The grid is filled once 17 is past; the working numbers that 20 asks for are 0 after the searches; both
   -- lists are written on 0 alone

@@ -2,7 +2,7 @@
 -- Assumes nothing.
 use mathlib.Core.Path.{_≡_, refl, sym, ap, _∙_, subst}
 use mathlib.Core.Bool.{Bool, true, false, cond}
-use mathlib.Core.List.{List, [], _∷_}
+use mathlib.Core.List.{List}
 use Prim.Native.Nat.{ℕ, _*_, _≤_, _<_}
 use native.Mathlib.Omega.{arith}
 use native.Mathlib.Decide.{decLt}
@@ -17,10 +17,10 @@ use Rattle.ground.specs.Grid.{Grid}
 use Rattle.search.specs.Tracing.{pathCount, numbersEach}
 use Rattle.ground.specs.Accumulation.{subaccumulations}
 use Rattle.alloutlets.specs.declared.TracedAll.{TracedAll}
-use Rattle.answers.specs.Checks.{Check, firstFailed, check20, check21, check23}
+use Rattle.answers.specs.Checks.{firstFailed, check20, check21, check23}
 use Rattle.answers.specs.Entries.{Catchment, Subaccumulates, subaccumulateNumber, subaccumulateLeaves}
 use Rattle.alloutlets.specs.AllOutlets.{LentAll, lentAll, mostCells, pathCounts, tracedAll, traceAllNumber, tellsAll}
-use Rattle.alloutlets.specs.AllOutlets.{leavesAll, tracingOf, allStarts, TracesAll}
+use Rattle.alloutlets.specs.AllOutlets.{lastChecks, leavesAll, tracingOf, allStarts, TracesAll}
 use Rattle.answers.proofs.FirstFailed.{handed-on}
 use Rattle.checks.proofs.Passed.{beyond-outlets, outlets-at-most}
 use Rattle.accumulation.proofs.Subaccumulated.{before}
@@ -86,9 +86,6 @@ module _ (c : Catchment) (old : LentAll) {n : ℕ} {grid : List ℕ}
   abbrev paths : List ℕ
   paths = pathCounts (c .grid) (c .outlets)
 
-  abbrev later : List Check
-  later = check20 cells (old .work) ∷ check23 paths (old .counts) ∷ check21 (sumOf paths) (old .starts) ∷ []
-
   -- what is left where no list is written
   abbrev left : List ℕ → LentAll
   left work = lentAll grid (old .starts) (old .counts) work
@@ -96,7 +93,7 @@ module _ (c : Catchment) (old : LentAll) {n : ℕ} {grid : List ℕ}
   module _ (z : n ≡ 0 → ⊥) where
     early : traceAllNumber c old ≡ n
     unfolding traceAllNumber subaccumulateNumber
-    early = sym (handed-on (before c (old .subaccumulation)) later (s .answers) z)
+    early = sym (handed-on (before c (old .subaccumulation)) (lastChecks c old) (s .answers) z)
 
     small : n < 18
     unfolding subaccumulateNumber
@@ -123,9 +120,9 @@ module _ (c : Catchment) (old : LentAll) {n : ℕ} {grid : List ℕ}
         }
 
   module _ (z : n ≡ 0) where
-    beyond : traceAllNumber c old ≡ firstFailed later
+    beyond : traceAllNumber c old ≡ firstFailed (lastChecks c old)
     unfolding traceAllNumber subaccumulateNumber
-    beyond = beyond-outlets c _ later (sym (s .answers) ∙ z)
+    beyond = beyond-outlets c _ (lastChecks c old) (sym (s .answers) ∙ z)
 
     full : grid ≡ overlaid (subaccumulations (c .grid) (c .outlets)) (old .subaccumulation)
     unfolding subaccumulateLeaves
