@@ -24,8 +24,9 @@ use Rattle.alloutlets.specs.AllOutlets.{lastChecks, leavesAll, tracingOf, allSt
 use Rattle.answers.proofs.FirstFailed.{handed-on}
 use Rattle.checks.proofs.Passed.{beyond-outlets, outlets-at-most}
 use Rattle.accumulation.proofs.Subaccumulated.{before}
-use Rattle.tracingall.specs.declared.Sums.{Sums}
-use Rattle.tracingall.specs.Passes.{sumsOf, WorkKept, ListsAll, numberFor, SearchesAll}
+use Rattle.passes.specs.declared.Sums.{Sums}
+use Rattle.passes.specs.Passes.{sumsOf, WorkKept, ListsAll}
+use Rattle.tracingall.specs.Searching.{numberFor, SearchesAll}
 
 module _ (g : Grid) (outlets : List ℕ) where
   abbrev asked : ℕ

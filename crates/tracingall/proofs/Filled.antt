@@ -25,7 +25,7 @@ use Rattle.moves.proofs.Spots.{size}
 use Rattle.checks.proofs.Passed.{Listed, Sized, sized}
 use Rattle.accumulation.proofs.Subaccumulated.{lengths, good}
 use Rattle.tracing.proofs.Filled.{chosen, ready, in-grid, cells}
-use Rattle.tracingall.specs.Passes.{Searchable}
+use Rattle.passes.specs.Passes.{Searchable}
 
 module _ {c : Catchment} (ours : c .grid .table ≡ table1) {old new : List ℕ} {number : ℕ}
     (s : Subaccumulates c old number new) (z : number ≡ 0) where

@@ -1,4 +1,2 @@
-pub mod Counting
-pub mod Listing
 pub mod Filled
 pub mod Deciding

@@ -4,7 +4,7 @@ use native.Mathlib.Omega.{arith}
 use borrow.Author.Needs.{needs}
 use Rattle.lists.proofs.Kept.{kept-then}
 use Rattle.ground.specs.Grid.{gridOf}
-use Rattle.tracingall.proofs.Counting.{kept-searchable}
+use Rattle.passes.proofs.Counting.{kept-searchable}
 use Rattle.tracingall.proofs.Deciding.{clears-all, total, searched-21, searched-0}
 use Rattle.tracingall.proofs.search_all.Statement.{statement}
 use Rattle.tracingall.proofs.search_all.Tie as tie

@@ -1,15 +1,15 @@
--- `tracingall::count_all` meets its contract. The invariant: the first j outlets are counted.
+-- `passes::count_all` meets its contract. The invariant: the first j outlets are counted.
 -- Assumes nothing.
 use Prim.Native.Nat.{_+_, _-_, _≤_, _^_}
 use native.Mathlib.Omega.{arith}
 use lib.ListN.{length}
 use Rattle.lists.proofs.Kept.{kept-all}
 use Rattle.ground.specs.Grid.{gridOf}
-use Rattle.tracingall.specs.Passes.{WorkKept}
-use Rattle.tracingall.proofs.Counting.{Counting, counting-none, counting-more, counting-fits, counted-all, few-counted}
-use Rattle.tracingall.proofs.Counting.{has-room, kept-search}
-use Rattle.tracingall.proofs.count_all.Statement.{statement}
-use Rattle.tracingall.proofs.count_all.Tie as tie
+use Rattle.passes.specs.Passes.{WorkKept}
+use Rattle.passes.proofs.Counting.{Counting, counting-none, counting-more, counting-fits, counted-all, few-counted}
+use Rattle.passes.proofs.Counting.{has-room, kept-search}
+use Rattle.passes.proofs.count_all.Statement.{statement}
+use Rattle.passes.proofs.count_all.Tie as tie
 
 abbrev Inv-loop : tie.InvT-loop
 Inv-loop rows cols codes outlets subaccumulation work₀ s₀ j₀ work s j =

@@ -1,4 +1,4 @@
--- `tracingall::list_all` meets its contract. The invariant: the first j outlets are listed, and storing what is left of
+-- `passes::list_all` meets its contract. The invariant: the first j outlets are listed, and storing what is left of
 -- both lists stores all.
 -- Assumes nothing.
 use mathlib.Core.Path.{ap, _∙_}
@@ -10,12 +10,12 @@ use lib.Seq.{sets}
 use Rattle.lists.proofs.Kept.{kept-all}
 use Rattle.ground.specs.Grid.{gridOf}
 use Rattle.alloutlets.proofs.AllOutlets.{startsTo, long-starts}
-use Rattle.tracingall.specs.Passes.{WorkKept}
-use Rattle.tracingall.proofs.Counting.{pathsTo, has-room, kept-search}
-use Rattle.tracingall.proofs.Listing.{Listing, listing-none, listing-more, within}
-use Rattle.tracingall.proofs.Listing.{put-part, fits-all, all-listed, all-counted}
-use Rattle.tracingall.proofs.list_all.Statement.{statement}
-use Rattle.tracingall.proofs.list_all.Tie as tie
+use Rattle.passes.specs.Passes.{WorkKept}
+use Rattle.passes.proofs.Counting.{pathsTo, has-room, kept-search}
+use Rattle.passes.proofs.Listing.{Listing, listing-none, listing-more, within}
+use Rattle.passes.proofs.Listing.{put-part, fits-all, all-listed, all-counted}
+use Rattle.passes.proofs.list_all.Statement.{statement}
+use Rattle.passes.proofs.list_all.Tie as tie
 
 abbrev Inv-loop : tie.InvT-loop
 Inv-loop rows cols codes outlets subaccumulation starts₀ counts₀ work₀ total₀ j₀ starts counts work total j =

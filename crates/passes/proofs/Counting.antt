@@ -16,8 +16,8 @@ use Rattle.search.specs.Tracing.{pathCount, numbersEach}
 use Rattle.progress.specs.declared.Progress.{Progress}
 use Rattle.alloutlets.specs.AllOutlets.{tracingOf, mostCells, pathCounts}
 use Rattle.tracing.specs.Answering.{cellsOf, Told}
-use Rattle.tracingall.specs.declared.Sums.{Sums}
-use Rattle.tracingall.specs.Passes.{Searchable, sumsOf, WorkKept}
+use Rattle.passes.specs.declared.Sums.{Sums}
+use Rattle.passes.specs.Passes.{Searchable, sumsOf, WorkKept}
 
 -- ---- a search within the working numbers that 20 asks for
 

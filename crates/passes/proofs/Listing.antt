@@ -14,7 +14,7 @@ use Rattle.lists.proofs.Sums.{joined-left, sum-left}
 use Rattle.ground.specs.Grid.{Grid}
 use Rattle.alloutlets.specs.AllOutlets.{allStarts, pathCounts}
 use Rattle.alloutlets.proofs.AllOutlets.{startsTo, long-starts, all-long}
-use Rattle.tracingall.proofs.Counting.{pathsTo, Adds}
+use Rattle.passes.proofs.Counting.{pathsTo, Adds}
 
 -- numbers written to the part of a list from a place on
 pub put-part : (xs cs : List ℕ) (a : ℕ) {ys : List ℕ} → a + length cs ≤ length xs
