@@ -16,11 +16,12 @@ use Rattle.ground.specs.Subwatershed.{isOutlet}
 use Rattle.ground.proofs.Ground.{𝓝, at-most-cells}
 use Rattle.moves.proofs.Spots.{size}
 use Rattle.answers.specs.Drawing.{Drawing, drawnPath, drawNumber, drawLeaves, drawnPart, Draws}
+use Rattle.flowpath.specs.FlowPath.{outletOf, IsPath}
+use Rattle.flowpath.specs.Measuring.{Surveyed}
+use Rattle.flowpath.proofs.Following.{positive, grows, start-solid}
 use Rattle.drawing.specs.declared.Drawn.{Drawn}
-use Rattle.drawing.specs.FlowPath.{outletOf, IsPath}
-use Rattle.drawing.specs.Measuring.{Surveyed, Judged}
+use Rattle.drawing.specs.Judging.{Judged}
 use Rattle.drawing.specs.Cells.{firstCells, Drawable}
-use Rattle.drawing.proofs.Following.{positive, grows, start-solid}
 use Rattle.drawing.proofs.Judging.{chosen, inside-path, accepted-by}
 use Rattle.drawing.proofs.Writing.{path-cells}
 

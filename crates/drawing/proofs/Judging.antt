@@ -17,9 +17,10 @@ use Rattle.answers.specs.Entries.{placeChecks}
 use Rattle.answers.specs.Drawing.{Drawing, drawnPath, drawNumber, drawnPart}
 use Rattle.answers.proofs.FirstFailed.{handed-on}
 use Rattle.checks.proofs.Passed.{Sized, Listed, sized, listed, beyond-place, in-list}
-use Rattle.drawing.specs.FlowPath.{outletOf, IsPath}
-use Rattle.drawing.specs.Measuring.{Surveyed, pathLength, answerOf, Judged}
-use Rattle.drawing.proofs.Walked.{flow-path}
+use Rattle.flowpath.specs.FlowPath.{outletOf, IsPath}
+use Rattle.flowpath.specs.Measuring.{Surveyed, pathLength}
+use Rattle.flowpath.proofs.Walked.{flow-path}
+use Rattle.drawing.specs.Judging.{answerOf, Judged}
 
 -- checks that give 0 with others after them give it without
 first-passes : (cs ds : List Check) → firstFailed (cs ++ ds) ≡ 0 → firstFailed cs ≡ 0

@@ -17,9 +17,10 @@ use Rattle.ground.proofs.Ground.{grid-length, grid-at}
 use Rattle.moves.specs.declared.Walk.{Walk}
 use Rattle.moves.specs.Walks.{OnGrid, WalkedOn}
 use Rattle.moves.proofs.Spots.{size}
-use Rattle.drawing.specs.FlowPath.{FlowPath}
-use Rattle.drawing.specs.Cells.{cellOf, BeginsAt, cellOn, cellAfter, firstCells, Drawable}
-use Rattle.drawing.proofs.Stepping.{steps, on-cell, at-most-one}
+use Rattle.flowpath.specs.FlowPath.{FlowPath}
+use Rattle.flowpath.specs.Cells.{cellOf, BeginsAt, cellOn}
+use Rattle.flowpath.proofs.Stepping.{steps, on-cell, at-most-one}
+use Rattle.drawing.specs.Cells.{cellAfter, firstCells, Drawable}
 
 module _ (g : Grid) (start : ℕ) where
   pub cells-length : (n : ℕ) → length (firstCells g start n) ≡ n

@@ -1,3 +1,2 @@
-pub mod FlowPath
-pub mod Measuring
+pub mod Judging
 pub mod Cells

@@ -1,10 +1,10 @@
--- `drawing::mark_after` meets its contract: the mark stays until the accumulation comes up to it.
+-- `flowpath::mark_after` meets its contract: the mark stays until the accumulation comes up to it.
 -- Assumes nothing.
 use native.Mathlib.Omega.{arith}
 use borrow.Author.Needs.{needs}
-use Rattle.drawing.proofs.Marks.{none-higher}
-use Rattle.drawing.proofs.mark_after.Statement.{statement}
-use Rattle.drawing.proofs.mark_after.Tie as tie
+use Rattle.flowpath.proofs.Marks.{none-higher}
+use Rattle.flowpath.proofs.mark_after.Statement.{statement}
+use Rattle.flowpath.proofs.mark_after.Tie as tie
 
 mul-value : tie.Need-mul-value
 mul-value c = search needs

@@ -1,8 +1,8 @@
--- `drawing::walk_from` meets its contract.
+-- `flowpath::walk_from` meets its contract.
 -- Assumes nothing.
 use borrow.Author.Needs.{needs}
-use Rattle.drawing.proofs.walk_from.Statement.{statement}
-use Rattle.drawing.proofs.walk_from.Tie as tie
+use Rattle.flowpath.proofs.walk_from.Statement.{statement}
+use Rattle.flowpath.proofs.walk_from.Tie as tie
 
 split-number-requires : tie.Need-split-number-requires
 split-number-requires c κs = search needs

@@ -1,10 +1,10 @@
--- `drawing::meets_outlet` meets its contract: below the mark there is no outlet, and else the list tells.
+-- `flowpath::meets_outlet` meets its contract: below the mark there is no outlet, and else the list tells.
 -- Assumes nothing.
 use mathlib.Core.Path.{sym}
 use borrow.Author.Needs.{needs}
-use Rattle.drawing.proofs.Marks.{no-outlet-below}
-use Rattle.drawing.proofs.meets_outlet.Statement.{statement}
-use Rattle.drawing.proofs.meets_outlet.Tie as tie
+use Rattle.flowpath.proofs.Marks.{no-outlet-below}
+use Rattle.flowpath.proofs.meets_outlet.Statement.{statement}
+use Rattle.flowpath.proofs.meets_outlet.Tie as tie
 
 mul-if1 : tie.Need-mul-if1
 mul-if1 c = search needs

@@ -1,14 +1,14 @@
--- `drawing::least_above` meets its contract. The invariant: no outlet looked at lies between the value and the least.
+-- `flowpath::least_above` meets its contract. The invariant: no outlet looked at lies between the value and the least.
 -- Assumes nothing.
 use mathlib.Core.Path.{_≡_, subst}
 use Prim.Native.Nat.{ℕ, _+_, _-_, _≤_, _<_}
 use native.Mathlib.Omega.{arith}
 use lib.ListN.{length, getD}
 use borrow.Author.Needs.{needs}
-use Rattle.drawing.specs.Measuring.{NoneBetween}
-use Rattle.drawing.proofs.Marks.{none-first, none-more}
-use Rattle.drawing.proofs.least_above.Statement.{statement}
-use Rattle.drawing.proofs.least_above.Tie as tie
+use Rattle.flowpath.specs.Measuring.{NoneBetween}
+use Rattle.flowpath.proofs.Marks.{none-first, none-more}
+use Rattle.flowpath.proofs.least_above.Statement.{statement}
+use Rattle.flowpath.proofs.least_above.Tie as tie
 
 abbrev Inv-loop : tie.InvT-loop
 Inv-loop accumulation outlets value least₀ j₀ least j =

@@ -25,11 +25,11 @@ use Rattle.moves.specs.Walks.{OnGrid, WalkedOn}
 use Rattle.moves.proofs.Spots.{size}
 use Rattle.answers.specs.Entries.{Catchment}
 use Rattle.checks.specs.Tests.{isPlaced}
-use Rattle.drawing.specs.Measuring.{Surveyed, OutletsIn, NoneBetween, MarkedAt, pathLength}
-use Rattle.drawing.specs.Cells.{cellOf, BeginsAt}
-use Rattle.drawing.proofs.Marks.{none-higher}
-use Rattle.drawing.proofs.Walked.{belongs-out, belongs-next, belongs-end}
-use Rattle.drawing.proofs.Stepping.{steps, Onward, onward, ended}
+use Rattle.flowpath.specs.Measuring.{Surveyed, OutletsIn, NoneBetween, MarkedAt, pathLength}
+use Rattle.flowpath.specs.Cells.{cellOf, BeginsAt}
+use Rattle.flowpath.proofs.Marks.{none-higher}
+use Rattle.flowpath.proofs.Walked.{belongs-out, belongs-next, belongs-end}
+use Rattle.flowpath.proofs.Stepping.{steps, Onward, onward, ended}
 
 -- the outlets of a catchment
 abbrev out : Catchment → ℕ → Bool

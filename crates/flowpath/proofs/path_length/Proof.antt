@@ -1,13 +1,13 @@
--- `drawing::path_length` meets its contract: beyond the grid and at a null cell there is nothing to draw.
+-- `flowpath::path_length` meets its contract: beyond the grid and at a null cell there is nothing to draw.
 -- Assumes nothing.
 use mathlib.Core.Path.{sym, ap, _∙_}
 use Prim.Native.Nat.{ℕ}
 use borrow.Author.Needs.{needs}
 use Rattle.ground.specs.Grid.{gridOf}
-use Rattle.drawing.specs.Measuring.{pathLength}
-use Rattle.drawing.proofs.Following.{placed-solid, not-placed}
-use Rattle.drawing.proofs.path_length.Statement.{statement}
-use Rattle.drawing.proofs.path_length.Tie as tie
+use Rattle.flowpath.specs.Measuring.{pathLength}
+use Rattle.flowpath.proofs.Following.{placed-solid, not-placed}
+use Rattle.flowpath.proofs.path_length.Statement.{statement}
+use Rattle.flowpath.proofs.path_length.Tie as tie
 
 is-placed-requires : tie.Need-is-placed-requires
 is-placed-requires c κs = search needs

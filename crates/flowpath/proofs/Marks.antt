@@ -9,7 +9,7 @@ use native.Mathlib.Decide.{decLt}
 use lib.ListN.{length, getD}
 use Rattle.lists.specs.Lists.{member}
 use Rattle.lists.proofs.Members.{position-of}
-use Rattle.drawing.specs.Measuring.{NoneBetween}
+use Rattle.flowpath.specs.Measuring.{NoneBetween}
 
 module _ {accumulation outlets : List ℕ} where
   -- BELOW THE MARK there is no outlet

@@ -16,7 +16,7 @@ use Rattle.ground.specs.Subwatershed.{walked, longer, firstOutlet, belongs}
 use Rattle.ground.proofs.Walks.{walked-out, walked-next}
 use Rattle.ground.proofs.Network.{first-out, first-next, first-end, first-induct}
 use Rattle.ground.proofs.Subwatersheds.{true-belongs}
-use Rattle.drawing.specs.FlowPath.{FlowPath}
+use Rattle.flowpath.specs.FlowPath.{FlowPath}
 
 module _ {S : Type 0} (next : ℕ → Option (Link S)) (outlet : ℕ → Bool) where
   -- a flow path of one cell,

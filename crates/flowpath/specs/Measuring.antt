@@ -10,8 +10,6 @@ use Rattle.ground.specs.Accumulation.{agrees}
 use Rattle.ground.specs.Subwatershed.{inSubwatershed, pathFrom}
 use Rattle.moves.specs.Lent.{LentGrid}
 use Rattle.answers.specs.Entries.{Catchment}
-use Rattle.answers.specs.Drawing.{Drawing, drawNumber, drawnPart}
-use Rattle.drawing.specs.declared.Drawn.{Drawn}
 
 -- the sizes are allowed, the accumulation agrees, and every outlet is a cell of ground
 pub record Surveyed (c : Catchment) : Type 0 where
@@ -39,12 +37,3 @@ pub record MarkedAt (accumulation outlets : List ℕ) (cell mark : ℕ) : Type 0
 -- how many cells are to be drawn: those of the path, and none where the start is not in the subwatershed
 unfoldable pub pathLength : Grid → List ℕ → ℕ → ℕ → ℕ
 pathLength g outlets o start = cond (inSubwatershed g outlets o start) (length (pathFrom g outlets start)) 0
-
--- the answer of a number and a count
-abbrev pub answerOf : ℕ → ℕ → Drawn
-answerOf number count = record { number = number; count = count }
-
--- what is answered before anything is written: the number, and how many cells there are to write
-pub record Judged (q : Drawing) (lent : List ℕ) (d : Drawn) : Type 0 where
-  pub answers : d .number ≡ drawNumber q lent
-  pub counts : d .count ≡ length (drawnPart q lent)

@@ -15,7 +15,7 @@ use Rattle.moves.specs.declared.Walk.{Walk}
 use Rattle.moves.specs.Walks.{stateOf, WalkedOn}
 use Rattle.moves.proofs.Walking.{state-ends, state-goes}
 use Rattle.moves.proofs.Staying.{next-moves}
-use Rattle.drawing.specs.Cells.{cellOf, cellOn}
+use Rattle.flowpath.specs.Cells.{cellOf, cellOn}
 
 -- a step counts one
 plus-one : (l : Length) (s : Step) → plusStep l s .straight + plusStep l s .diagonal ≡ l .straight + l .diagonal + 1

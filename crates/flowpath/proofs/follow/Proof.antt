@@ -1,4 +1,4 @@
--- `drawing::follow` meets its contract. The invariant: what lies before the walk is what the whole walk has, less the
+-- `flowpath::follow` meets its contract. The invariant: what lies before the walk is what the whole walk has, less the
 -- cells passed.
 -- Assumes nothing.
 use mathlib.Core.Path.{_≡_, sym, _∙_}
@@ -10,10 +10,10 @@ use borrow.Author.Needs.{needs}
 use Rattle.lists.specs.Lists.{member}
 use Rattle.moves.proofs.Spots.{size}
 use Rattle.answers.specs.Entries.{catchment}
-use Rattle.drawing.proofs.Following.{Following, outlets-in, begun, few-steps, marked-at, on-grid}
-use Rattle.drawing.proofs.Following.{arrived, elsewhere, lost, one-step, goes-on}
-use Rattle.drawing.proofs.follow.Statement.{statement}
-use Rattle.drawing.proofs.follow.Tie as tie
+use Rattle.flowpath.proofs.Following.{Following, outlets-in, begun, few-steps, marked-at, on-grid}
+use Rattle.flowpath.proofs.Following.{arrived, elsewhere, lost, one-step, goes-on}
+use Rattle.flowpath.proofs.follow.Statement.{statement}
+use Rattle.flowpath.proofs.follow.Tie as tie
 
 abbrev Inv-loop : tie.InvT-loop
 Inv-loop rows cols codes accumulation outlets outlet start walk₀ cell₀ mark₀ walk cell mark =

@@ -1,0 +1,4 @@
+pub mod Marks
+pub mod Walked
+pub mod Stepping
+pub mod Following

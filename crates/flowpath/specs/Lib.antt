@@ -1,0 +1,3 @@
+pub mod FlowPath
+pub mod Measuring
+pub mod Cells
