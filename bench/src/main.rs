@@ -25,9 +25,9 @@ use trials::Runs;
 
 /// Sides, and how often each does its work.
 const SIZES: [(usize, Runs); 3] = [
-    (64, Runs { quick: 15, rust: 15 }),
-    (1024, Runs { quick: 9, rust: 7 }),
-    (4096, Runs { quick: 5, rust: 2 }),
+    (64, Runs { quick: 15, rust: 15, each: false }),
+    (1024, Runs { quick: 9, rust: 7, each: false }),
+    (4096, Runs { quick: 5, rust: 2, each: true }),
 ];
 
 /// The Rust implementation recurs as deep as the longest walk has cells.
@@ -70,13 +70,14 @@ fn bench(sizes: &[(usize, Runs)]) {
     tables::growth(&measured);
     tables::times(largest);
     tables::visits(&measured);
+    tables::second_searches(largest);
     memory.print();
     stacks::stacks();
     noise(&clock.bests);
 }
 
 fn aims() {
-    let size = (4096, Runs { quick: 15, rust: 0 });
+    let size = (4096, Runs { quick: 15, rust: 0, each: true });
     machine(&[size]);
     let mut clock = Clock::default();
     tables::aims(&measure(size, &grounds::KINDS[..3], &mut clock));
@@ -86,8 +87,10 @@ fn aims() {
 fn measure((side, runs): (usize, Runs), kinds: &[Kind], clock: &mut Clock) -> Size {
     let sets = trials::Sets::new(side * side);
     let mut grounds = Vec::new();
-    for (kind, make) in kinds {
+    for (at, (kind, make)) in kinds.iter().enumerate() {
         eprintln!("{kind} {side}");
+        // A call for each outlet takes long, and only on the first ground is it aimed at.
+        let runs = Runs { each: runs.each && at == 0, ..runs };
         grounds.push(trials::trial(&make(side), runs, &sets, clock));
     }
     Size { name: format!("{}²", tables::grouped(side)), grounds }
@@ -102,15 +105,16 @@ fn machine(sizes: &[(usize, Runs)]) {
     let cores = thread::available_parallelism().map_or(0, usize::from);
     println!("- Machine: {processor}, {cores} cores, load before the run {}", one_minute(&load));
     println!("- C: {}; Rust: {}, release", env!("GCC"), env!("RUSTC"));
-    let runs = sizes.iter().map(|&(side, Runs { quick, rust })| {
+    let runs = sizes.iter().map(|&(side, Runs { quick, rust, .. })| {
         format!("{quick} ({rust} in Rust) at {}²", tables::grouped(side))
     });
     let runs: Vec<String> = runs.collect();
     println!("- Times: CPU time of the process, the best of {}", runs.join(", "));
     println!(
-        "- Lent: grids of R × C places, a list of {} starts, working space of 3 × R × C numbers, \
-         R × C places to draw in; all written before",
-        tables::grouped(trials::LIST)
+        "- Lent: grids of R × C places, a list of {} starts, {} counts, working space of 3 × R × C \
+         numbers, R × C places to draw in; all written before",
+        tables::grouped(trials::LIST),
+        trials::OUTLETS
     );
     println!(
         "- Rust: traces and gives flow lengths where all its walks together have at most {} steps; \

@@ -9,23 +9,24 @@ use crate::grounds::comb;
 use crate::measure::peak;
 use crate::plain::{self, Rule};
 use crate::tables::table;
-use crate::trials::{accepted, FROM, LIST, TO};
+use crate::trials::{accepted, FROM, LIST, OUTLETS, TO};
 
 /// The side of the comb on which memory is measured.
 const SIDE: usize = 4096;
 
-const WORKS: [&str; 7] = [
+const WORKS: [&str; 8] = [
     "accumulate",
     "check 14",
     "convert",
     "subaccumulate",
     "flow lengths",
     "trace by stack",
+    "trace all",
     "draw",
 ];
 
 /// What the Rust implementation does not do here: it would walk for minutes.
-const NOT_IN_RUST: [&str; 2] = ["flow lengths", "trace by stack"];
+const NOT_IN_RUST: [&str; 3] = ["flow lengths", "trace by stack", "trace all"];
 
 const WHO: [&str; 3] = ["library", "plain C", "Rust"];
 
@@ -190,6 +191,33 @@ fn accumulated(who: &str, work: &str, codes: &[u8]) -> usize {
                         &mut work,
                     );
                     17 * cells + 4 * LIST
+                }
+                ("library", "trace all") => {
+                    accepted(jinxbanyan::trace_all(
+                        SIDE,
+                        SIDE,
+                        codes,
+                        &accumulation,
+                        &outlets,
+                        &mut grid(),
+                        &mut vec![1; LIST],
+                        &mut vec![1; OUTLETS],
+                        &mut vec![1; 3 * cells],
+                        &mut [0; 2],
+                    ));
+                    16 * cells + 4 * (LIST + OUTLETS)
+                }
+                ("plain C", "trace all") => {
+                    plain::trace_all(
+                        terrain,
+                        &outlets,
+                        &mut grid(),
+                        &mut vec![1; cells],
+                        &mut vec![1; LIST],
+                        &mut vec![1; OUTLETS],
+                        &mut vec![1; 3 * cells],
+                    );
+                    17 * cells + 4 * (LIST + OUTLETS)
                 }
                 ("library", "draw") => {
                     accepted(jinxbanyan::draw(

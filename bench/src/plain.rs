@@ -238,6 +238,31 @@ pub fn search(
     [found.straight, found.diagonal, found.paths, found.visited, found.dropped]
 }
 
+/// The equation, the inflow count, and for each outlet the tight search, its starts written after
+/// those before it and their count kept. The cells visited and those dropped, over all.
+pub fn trace_all(
+    terrain: Terrain,
+    outlets: &[u32],
+    subaccumulation: &mut [u32],
+    marks: &mut [u8],
+    starts: &mut [u32],
+    counts: &mut [u32],
+    work: &mut [u32],
+) -> [u32; 2] {
+    assert_eq!(subaccumulate(terrain, outlets, subaccumulation, marks), 0);
+    let (mut first, mut sums) = (0, [0; 2]);
+    for (&outlet, count) in outlets.iter().zip(counts) {
+        let list = &mut starts[first..];
+        let [_, _, paths, visited, dropped] =
+            search(terrain, subaccumulation, marks, outlet, Rule::Tight, list, work);
+        *count = paths;
+        first += paths as usize;
+        sums = [sums[0] + visited, sums[1] + dropped];
+    }
+    assert!(first <= starts.len());
+    sums
+}
+
 /// How many cells were drawn.
 pub fn draw(terrain: Terrain, outlet: u32, start: u32, places: &mut [u32]) -> usize {
     let Terrain { rows, cols, codes, .. } = terrain;

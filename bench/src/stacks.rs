@@ -95,6 +95,21 @@ fn stacks_of(side: usize) -> Vec<(&'static str, usize)> {
         });
         measured.push((name, bytes));
     }
+    let trace_all = stack(|| {
+        accepted(jinxbanyan::trace_all(
+            side,
+            side,
+            codes,
+            accumulation,
+            &outlets,
+            &mut grid,
+            &mut starts,
+            &mut [1],
+            &mut work,
+            &mut [0; 2],
+        ));
+    });
+    measured.push(("trace all", trace_all));
     for (name, dropping) in [("trace by recursion", false), ("trace by recursion, dropping", true)]
     {
         let bytes = stack(|| {

@@ -1,7 +1,7 @@
 //! Markdown.
 
 use crate::grounds::KINDS;
-use crate::trials::{Figure, Own, Row, Trial, ROWS};
+use crate::trials::{Figure, Own, Row, Trial, OUTLETS, ROWS};
 
 /// A table whose first columns hold words and the others numbers.
 pub fn table(words: usize, heads: &[&str], rows: &[Vec<String>]) {
@@ -52,7 +52,8 @@ pub fn aims(size: &Size) {
     println!("### {}: aims\n", size.name);
     let mut rows = Vec::new();
     let mut aimed = |row: &Row, beside: String, kind: &str, most: f64, found: String| {
-        let most = format!("≤ {most:.1}");
+        // All digits that the aim has, and at least one after the point.
+        let most = format!("≤ {most:?}");
         rows.push(vec![row.work.to_string(), beside, kind.to_string(), most, found]);
     };
     for (at, row) in ROWS.iter().enumerate() {
@@ -68,6 +69,11 @@ pub fn aims(size: &Size) {
             let (ground, kind) = (&size.grounds[0].figures, KINDS[0].0);
             let found = ratio(ground[at].library / ground[other].library);
             aimed(row, format!("the library: {work}"), kind, most, found);
+        }
+        if let (Some(most), Some(each)) = (row.each, size.grounds[0].each) {
+            let found = ratio(size.grounds[0].figures[at].library / each);
+            let beside = "the library: stack, dropping, a call for each outlet, once";
+            aimed(row, beside.to_string(), KINDS[0].0, most, found);
         }
     }
     table(3, &["work", "beside", "ground", "aim", "found"], &rows);
@@ -167,6 +173,28 @@ pub fn visits(sizes: &[Size]) {
     }
     let heads = ["size", "ground", "cells", "first", "tight", "C, first, ms", "C, tight, ms"];
     table(2, &heads, &rows);
+}
+
+/// What tracing all outlets takes at one size with the second search of each outlet and without it,
+/// and the cells that one search of each visits.
+pub fn second_searches(size: &Size) {
+    println!(
+        "### {}: trace all, {OUTLETS} outlets: accepted, and refused with 21 after one search of each \
+         outlet\n",
+        size.name
+    );
+    let mut rows = Vec::new();
+    for ((kind, _), Trial { searches, .. }) in KINDS.iter().zip(&size.grounds) {
+        rows.push(vec![
+            kind.to_string(),
+            grouped(searches.visited),
+            milliseconds(searches.accepted),
+            milliseconds(searches.refused),
+            marked(&searches.second, milliseconds(searches.second.library)),
+        ]);
+    }
+    let heads = ["ground", "visited", "accepted, ms", "refused, ms", "second search, ms"];
+    table(1, &heads, &rows);
 }
 
 fn milliseconds(seconds: f64) -> String {

@@ -1,5 +1,6 @@
 //! Each kind of work on one ground, by the library, plain C and the Rust implementation.
 
+mod all_outlets;
 mod drawing;
 mod figures;
 mod grids;
@@ -12,12 +13,14 @@ use second_reading::random::Random;
 
 use crate::grounds::{Field, SEED};
 use crate::measure::Clock;
+use all_outlets::{tracing_all, tracing_each, TracedAll};
 use drawing::drawing;
 use grids::{accumulating, checking, converting, measuring, subaccumulating};
 use tracing::{recursion, tracing, Engine, Traced};
 
+pub use all_outlets::Searches;
 pub use figures::Figure;
-pub use lent::{Sets, LIST};
+pub use lent::{Sets, LIST, OUTLETS};
 pub use rows::{Own, Row, ROWS};
 pub use tracing::{Visits, MOST_BY_RECURSION};
 
@@ -37,6 +40,8 @@ pub const MANY_STEPS: u64 = 20_000_000;
 pub struct Runs {
     pub quick: usize,
     pub rust: usize,
+    /// Whether a call for each outlet is made too, once.
+    pub each: bool,
 }
 
 impl Runs {
@@ -52,10 +57,13 @@ impl Runs {
     }
 }
 
-/// What one ground gave: the figures in the order of the rows, and what dropping visits.
+/// What one ground gave: the figures in the order of the rows, what dropping visits, the searches
+/// of tracing all outlets, and the seconds of a call for each if these were made.
 pub struct Trial {
     pub figures: Vec<Figure>,
     pub visits: Visits,
+    pub searches: Searches,
+    pub each: Option<f64>,
 }
 
 pub fn trial(field: &Field, runs: Runs, sets: &Sets, clock: &mut Clock) -> Trial {
@@ -71,10 +79,10 @@ pub fn trial(field: &Field, runs: Runs, sets: &Sets, clock: &mut Clock) -> Trial
     let outlet = largest(&accumulation, u32::MAX);
     let equation = checking(terrain, runs, clock, &mut figures);
     figures.extend(converting(field, runs, sets, clock));
-    let outlets = outlets(field, outlet, 256);
+    let outlets = outlets(field, outlet, OUTLETS);
     let many = subaccumulating(terrain, &outlets, runs, sets, clock);
-    let steps = steps_of(&sets.library.borrow().subaccumulation[..cells]);
-    let many_lengths = measuring(terrain, &outlets, steps, runs, sets, clock);
+    let many_steps = steps_of(&sets.library.borrow().subaccumulation[..cells]);
+    let many_lengths = measuring(terrain, &outlets, many_steps, runs, sets, clock);
     let one = subaccumulating(terrain, &[outlet], runs, sets, clock);
     let steps = steps_of(&accumulation);
     let one_lengths = measuring(terrain, &[outlet], steps, runs, sets, clock);
@@ -83,10 +91,14 @@ pub fn trial(field: &Field, runs: Runs, sets: &Sets, clock: &mut Clock) -> Trial
     let Traced { figures: traced, visits, start } =
         tracing(Engine::Stack, terrain, outlet, plain_fill, steps, runs, sets, clock);
     figures.extend(traced);
+    let TracedAll { figure, searches, sums } =
+        tracing_all(terrain, &outlets, many_steps, runs, sets, clock);
+    figures.push(figure);
     figures.extend(recursion(field, &accumulation, runs, clock));
     figures.extend(drawing(terrain, outlet, start, equation, runs, sets, clock));
     assert_eq!(figures.len(), ROWS.len());
-    Trial { figures, visits }
+    let each = runs.each.then(|| tracing_each(terrain, &outlets, sums, sets));
+    Trial { figures, visits, searches, each }
 }
 
 pub fn accepted(number: u32) {

@@ -8,11 +8,15 @@ use crate::measure::{Best, PAGE};
 /// The places of the list that tracing lends.
 pub const LIST: usize = 1024;
 
+/// The outlets of a long list, and the counts that tracing all of them lends.
+pub const OUTLETS: usize = 256;
+
 /// What one of the three is lent. Every place has been written.
 pub struct Lent {
     pub accumulation: Vec<u32>,
     pub subaccumulation: Vec<u32>,
     pub starts: Vec<u32>,
+    pub counts: Vec<u32>,
     pub work: Paged,
     pub places: Vec<u32>,
     pub bytes: Vec<u8>,
@@ -50,6 +54,7 @@ impl Lent {
             accumulation: vec![1; cells],
             subaccumulation: vec![1; cells],
             starts: vec![1; LIST],
+            counts: vec![1; OUTLETS],
             work: Paged::new(3 * cells),
             places: vec![1; cells],
             bytes: vec![1; cells],

@@ -12,6 +12,8 @@ pub struct Row {
     pub aims: [Option<f64>; KINDS.len()],
     /// The most that it should take of its own time for another work, on large fractal ground.
     pub own: Option<Own>,
+    /// And of its own time for a call for each outlet.
+    pub each: Option<f64>,
 }
 
 pub struct Own {
@@ -20,7 +22,7 @@ pub struct Own {
 }
 
 const fn row(work: &'static str, plain: &'static str, unit: &'static str) -> Row {
-    Row { work, plain, unit, aims: [None; KINDS.len()], own: None }
+    Row { work, plain, unit, aims: [None; KINDS.len()], own: None, each: None }
 }
 
 /// On fractal ground, on the comb and on the serpent.
@@ -36,7 +38,11 @@ const fn within(most: f64, work: &'static str, row: Row) -> Row {
     Row { own: Some(Own { work, most }), ..row }
 }
 
-pub const ROWS: [Row; 19] = [
+const fn within_each(most: f64, row: Row) -> Row {
+    Row { each: Some(most), ..row }
+}
+
+pub const ROWS: [Row; 20] = [
     aimed([1.4, 1.1, 1.4], row("accumulate", "inflow count", "cell")),
     row("accumulate", "look-around", "cell"),
     aimed([1.2, 1.5, 1.5], row("check 14", "equation", "cell")),
@@ -54,6 +60,14 @@ pub const ROWS: [Row; 19] = [
     aimed_on_fractal(1.3, row("stack, no dropping, search", "search", "visited cell")),
     row("stack, dropping, whole", "equation, inflow count, search", "cell"),
     aimed_on_fractal(1.3, row("stack, dropping, search", "search", "visited cell")),
+    within_each(
+        0.02,
+        within(
+            1.5,
+            "stack, dropping, whole",
+            row("trace all, 256 outlets", "equation, inflow count, searches", "cell"),
+        ),
+    ),
     row("recursion, no dropping, whole", "equation, inflow count, search", "cell"),
     row("recursion, no dropping, search", "search", "visited cell"),
     row("recursion, dropping, whole", "equation, inflow count, search", "cell"),

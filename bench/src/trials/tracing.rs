@@ -204,7 +204,7 @@ pub fn recursion(
         accumulation: &accumulation,
     };
     let rust = if runs.rust > 0 { runs.rust.max(7) } else { 0 };
-    let runs = Runs { quick: runs.quick.max(7), rust };
+    let runs = Runs { quick: runs.quick.max(7), rust, ..runs };
     let sets = Sets::new(valley.cells());
     let plain_fill = subaccumulating(terrain, &[outlet], runs, &sets, clock).plain;
     let steps = steps_of(&accumulation);
