@@ -179,8 +179,8 @@ pub fn visits(sizes: &[Size]) {
 /// and the cells that one search of each visits.
 pub fn second_searches(size: &Size) {
     println!(
-        "### {}: trace all, {OUTLETS} outlets: accepted, and refused with 21 after one search of each \
-         outlet\n",
+        "### {}: trace all, {OUTLETS} outlets: accepted, and refused with 21 after one search of \
+         each outlet\n",
         size.name
     );
     let mut rows = Vec::new();
