@@ -3,8 +3,8 @@ use lists::index_of;
 ghost use mathlib.Core.Path.{_≡_};
 ghost use Rattle.alloutlets.specs.Part.{partAt, ShowsStarts};
 
-// What became of tracing all outlets: the number of the first check that fails, 0 if none does, and the sums of the cells
-// visited and dropped.
+// What became of tracing all outlets: the number of the first check that fails, 0 if none does, and the sums of the
+// cells visited and dropped.
 pub struct TracedAll {
     pub number: u32,
     pub visited: u32,
@@ -17,8 +17,8 @@ pub struct Part {
     pub count: usize,
 }
 
-// Where the starts of the chosen outlet stand in a list of n, by the counts of the outlets before it and its own. Counts
-// may be any numbers: none is added that would run past n.
+// Where the starts of the chosen outlet stand in a list of n, by the counts of the outlets before it and its own.
+// Counts may be any numbers: none is added that would run past n.
 pub fn part_at(n: usize, counts: &[u32], choice: usize) -> Part
     ensures { λ r. ⌜ r ≡ partAt (now (counts .entry)) choice n ⌝ }
 {

@@ -1,5 +1,6 @@
 // The library's entries for programs in C: each slice is a pointer and a count of elements, and each function but
-// jb_starts_of returns the refusal number. Places for results are written on every call. Slices of one call must not overlap.
+// jb_starts_of returns the refusal number. Places for results are written on every call. Slices of one call must not
+// overlap.
 use answers::Traced;
 use answers::in_numbers;
 ghost use mathlib.Core.Path.{_≡_};

@@ -1,4 +1,5 @@
-// The two passes over the outlets of a list, in a grid that holds the subaccumulation: the first counts, the second lists.
+// The two passes over the outlets of a list, in a grid that holds the subaccumulation: the first counts, the second
+// lists.
 use lists::index_of;
 use tracing::list_at;
 use tracing::search_at;
