@@ -10,6 +10,7 @@ pub mod Cells
 pub mod GridNetwork
 pub mod Ponds
 pub mod Ground
+pub mod Divide
 pub mod AllOutlets
 pub mod FlowLengths
 pub mod Through

@@ -4,6 +4,7 @@ pub mod Grid
 pub mod Walk
 pub mod Accumulation
 pub mod Subwatershed
+pub mod Divide
 pub mod Forest
 pub mod FlowLengths
 pub mod Converting

@@ -1,13 +1,14 @@
--- DEMAND 3 is proved: of the search with and without dropping, and from pending cells.
+-- DEMAND 3 is proved: of the search by either edition, with and without dropping.
 -- Assumes nothing.
 use mathlib.Core.Path.{_≡_, refl, sym, ap, _∙_, subst}
-use mathlib.Core.Bool.{Bool, true, false, not}
+use mathlib.Core.Bool.{Bool, true, false, cond, not}
 use mathlib.Core.Logic.{inl, inr, _↔_}
 use mathlib.Core.List.{List, [], _∷_, map}
 use mathlib.Core.Option.{some}
 use Prim.Native.Nat.{ℕ, _+_, _≤_, _<_}
 use native.Mathlib.Omega.{arith}
 use lib.ListN.{length, length-map, length-append}
+use lib.Dec.{eqb}
 use Rattle.lengths.specs.declared.Length.{Length}
 use Rattle.lengths.specs.Rule.{counts, isShorter}
 use Rattle.lengths.proofs.Laws.{square-same}
@@ -17,6 +18,7 @@ use Rattle.ground.specs.Grid.{Grid, cellCount, ground, next, inflows}
 use Rattle.ground.specs.Walk.{At}
 use Rattle.ground.specs.Accumulation.{agrees, subaccumulation}
 use Rattle.ground.specs.Subwatershed.{firstOutlet, isOutlet, InSubwatershed, inSubwatershed, HasLength, Before, Longest}
+use Rattle.ground.specs.Divide.{onDivide}
 use Rattle.ground.specs.Forest.{Forest, bare, tree, size, forest, everyCell, cellsAbove, cellsFrom}
 use Rattle.lists.proofs.Lists.{every-in, every-is, sorted-with, sorted-over, same-sorted, in-only, only-in, only-length}
 use Rattle.ground.proofs.Walks.{after-zero}
@@ -24,12 +26,15 @@ use Rattle.ground.proofs.Network.{first-listed, cells-first}
 use Rattle.ground.proofs.Subwatersheds.{first-meets, true-belongs}
 use Rattle.ground.proofs.GridNetwork.{inflows-rise}
 use Rattle.ground.proofs.Ground.{𝓝, squares-laws, inside-test, sub-cells, sub-size, length-first}
-use Rattle.search.specs.Search.{exceeded, longest, Rule, tightLimit, tracingRule, searchFrom}
+use Rattle.ground.proofs.Divide.{divide-exists}
+use Rattle.search.specs.Search.{headwater, exceeded, longest, Rule, tightLimit, tracingRule, searchFrom}
+use Rattle.search.specs.Editions.{mayStart, meetsBy}
 use Rattle.search.specs.Tracing.{firstLength, tracingBy, tracing}
-use Rattle.search.specs.Demand.{anyCell, Demand3}
+use Rattle.search.specs.Demand.{Demand3}
 use Rattle.search.proofs.Meeting.{longest-is, is-longest}
-use Rattle.search.proofs.Dropping.{tight-covers, search-all, none-dropped}
+use Rattle.search.proofs.Dropping.{tight-covers, search-longest, search-all, none-dropped}
 use Rattle.search.proofs.Headwaters.{search-all-longest, longest-some}
+use Rattle.search.proofs.Editions.{from-by}
 use Rattle.search.proofs.Ordered.{parts-asym, longest-sorted}
 
 -- lists
@@ -259,13 +264,37 @@ module _ (g : Grid) (a : List ℕ) (h : agrees g a ≡ true) (outlets : List ℕ
   outlet-inside : InSubwatershed g outlets o o
   outlet-inside = record { steps = 0; meets = after-zero (next g) o; no-other = λ j x i. absurd (omega arith) }
 
-  lists : (dropping : Bool) → (searchFrom squares (tracingRule squares dropping) o (forest g outlets o)) .starts
-      ≡ longest squares (only (λ x. anyCell (x .cell)) cells)
-  lists dropping = search-all-longest squares squares-laws (tightLimit squares) (tight-covers squares squares-laws)
-      dropping o (forest g outlets o) ∙ ap (longest squares) (sym (only-all cells))
+  -- by either edition the search lists the longest of the cells that may start
+  lists : (edition : ℕ) (dropping : Bool)
+      → (searchFrom squares (tracingRule squares (meetsBy edition g outlets o) dropping) o (forest g outlets o)) .starts
+      ≡ longest squares (only (λ x. mayStart edition g outlets o (x .cell)) cells)
+  lists edition dropping = by (eqb edition 2)
+    where
+      by : (b : Bool) → (searchFrom squares (tracingRule squares (λ c above. cond b (onDivide g outlets o c)
+          (headwater c above)) dropping) o (forest g outlets o)) .starts
+          ≡ longest squares (only (λ x. cond b (onDivide g outlets o (x .cell)) true) cells)
+      by true = search-longest squares squares-laws
+          (tracingRule squares (λ c above. onDivide g outlets o c) dropping) (tight-covers squares squares-laws) o
+          (forest g outlets o)
+          ∙ ap (longest squares) (from-by squares (onDivide g outlets o) o (forest g outlets o))
+      by false = search-all-longest squares squares-laws (tightLimit squares) (tight-covers squares squares-laws)
+          dropping o (forest g outlets o) ∙ ap (longest squares) (sym (only-all cells))
 
-  -- THE THEOREM: with and without dropping
-  pub demand3 : (dropping : Bool) → Demand3 g outlets anyCell o (tracing dropping g outlets o)
-      (tracing false g outlets o)
-  demand3 dropping = demand anyCell (tracingRule squares dropping) (tracingRule squares false) refl (lists dropping)
-      (lists false) o outlet-inside refl
+  -- by either edition some cell may start
+  start-exists : (edition : ℕ) → (c : ℕ) × InSubwatershed g outlets o c × (mayStart edition g outlets o c ≡ true)
+  start-exists edition = by (eqb edition 2)
+    where
+      by : (b : Bool) → (c : ℕ) × InSubwatershed g outlets o c × (cond b (onDivide g outlets o c) true ≡ true)
+      by true =
+          let d = divide-exists g outlets o o (inside-test g a h outlets o listed v o .0 outlet-inside) in
+          (d .cell, inside-test g a h outlets o listed v (d .cell) .1 (d .inside), d .divides)
+      by false = (o, outlet-inside, refl)
+
+  -- THE THEOREM: by either edition, with and without dropping
+  pub demand3 : (edition : ℕ) (dropping : Bool) → Demand3 g outlets (mayStart edition g outlets o) o
+      (tracing edition dropping g outlets o) (tracing edition false g outlets o)
+  demand3 edition dropping =
+      let s = start-exists edition in
+      demand (mayStart edition g outlets o) (tracingRule squares (meetsBy edition g outlets o) dropping)
+      (tracingRule squares (meetsBy edition g outlets o) false) refl (lists edition dropping) (lists edition false)
+      (s .0) (s .1) (s .2)

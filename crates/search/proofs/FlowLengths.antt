@@ -24,7 +24,8 @@ use Rattle.ground.proofs.FlowLengths.{arrival-outlet}
 use Rattle.ground.proofs.Through.{path-ends, through, flow-at, flow-outside, through-outlet, through-path}
 use Rattle.ground.proofs.Through.{HeadAbove, head-above}
 use Rattle.search.specs.Tracing.{Tracing, longestLength, startCells, tracing}
-use Rattle.search.specs.Demand.{anyCell, Demand3}
+use Rattle.search.specs.Editions.{mayStart}
+use Rattle.search.specs.Demand.{Demand3}
 use Rattle.search.specs.Smith.{OnListedPath, Smith}
 use Rattle.search.proofs.Demand3.{demand3}
 
@@ -98,7 +99,7 @@ module _ (g : Grid) (a : List ℕ) (h : agrees g a ≡ true) (outlets : List ℕ
   outlet-comes = arrival-outlet g outlets o listed
 
   -- of what is told of o
-  module _ (t plain : Tracing) (demand : Demand3 g outlets anyCell o t plain) where
+  module _ (t plain : Tracing) (demand : Demand3 g outlets (mayStart 1 g outlets o) o t plain) where
     told : Length
     told = longestLength t
 
@@ -189,7 +190,7 @@ module _ (g : Grid) (a : List ℕ) (h : agrees g a ≡ true) (outlets : List ℕ
       outside = flow-outside g outlets;
     }
 
-  -- THE THEOREM: with and without dropping
-  pub smith-laws : (dropping : Bool) → Smith g outlets o (tracing dropping g outlets o)
-  smith-laws dropping = told-laws (tracing dropping g outlets o) (tracing false g outlets o)
-      (demand3 g a h outlets o listed v dropping)
+  -- THE THEOREM: by edition 1, with and without dropping
+  pub smith-laws : (dropping : Bool) → Smith g outlets o (tracing 1 dropping g outlets o)
+  smith-laws dropping = told-laws (tracing 1 dropping g outlets o) (tracing 1 false g outlets o)
+      (demand3 g a h outlets o listed v 1 dropping)

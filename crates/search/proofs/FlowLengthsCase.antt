@@ -34,8 +34,8 @@ unfolding compared ruled signOf isShorter dirOf codeAt neighbour next inflows fo
 fan-lengths = refl
 
 -- the paths of 7: their cells 0, 2, 6 and 7 are those with one straight and one diagonal step in all
-pub fan-paths : (longestLength (tracing false fan fanOutlets 7) ≡ counts 1 1)
-    × (map (pathFrom fan fanOutlets) (startCells (tracing false fan fanOutlets 7))
+pub fan-paths : (longestLength (tracing 1 false fan fanOutlets 7) ≡ counts 1 1)
+    × (map (pathFrom fan fanOutlets) (startCells (tracing 1 false fan fanOutlets 7))
     ≡ (0 ∷ 6 ∷ 7 ∷ []) ∷ (2 ∷ 6 ∷ 7 ∷ []) ∷ [])
 unfolding compared ruled signOf isShorter dirOf codeAt neighbour next inflows forest walked tracingBy
 fan-paths = (refl, refl)

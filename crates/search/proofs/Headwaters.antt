@@ -74,10 +74,10 @@ module _ {S : Type 0} (𝓛 : Lengths S) (laws : LengthLaws 𝓛) where
   -- 01's search by any limit that covers, with or without dropping, lists every cell of the subwatershed that no cell
   -- of it exceeds
   pub search-all-longest : (limit : Limit 𝓛) → Covers 𝓛 laws limit → (dropping : Bool) (o : ℕ) (above : Forest S)
-      → (searchFrom 𝓛 (limitedBy 𝓛 limit (firstRule 𝓛 dropping)) o above) .starts
+      → (searchFrom 𝓛 (limitedBy 𝓛 limit (firstRule 𝓛 headwater dropping)) o above) .starts
       ≡ longest 𝓛 (cellsFrom 𝓛 everyCell o above)
   search-all-longest limit covers dropping o above =
-      search-longest 𝓛 laws (limitedBy 𝓛 limit (firstRule 𝓛 dropping)) covers o above ∙ heads-longest o above
+      search-longest 𝓛 laws (limitedBy 𝓛 limit (firstRule 𝓛 headwater dropping)) covers o above ∙ heads-longest o above
 
   -- the list of the longest is not empty
   meets-some : (g : At Len) (gs xs : List (At Len)) → meets 𝓛 (g ∷ gs) xs ≡ [] → ⊥

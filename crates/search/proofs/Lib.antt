@@ -5,6 +5,7 @@ pub mod Ordered
 pub mod Demand3
 pub mod Tighter
 pub mod Faithful
+pub mod Editions
 pub mod Neighbours
 pub mod FlowLengths
 pub mod FlowLengthsCase

@@ -10,27 +10,15 @@ use Rattle.lengths.specs.Lengths.{Lengths}
 use Rattle.lists.specs.Lists.{member}
 use Rattle.ground.specs.Compass.{Dir, dirs, opposite}
 use Rattle.ground.specs.Grid.{Grid, Link, ground, neighbour, flowsIn, inflows, inflowsFrom}
-use Rattle.ground.specs.Accumulation.{total, agrees, subaccumulation, isHeadwater}
+use Rattle.ground.specs.Accumulation.{total, agrees, subaccumulation}
 use Rattle.ground.specs.Subwatershed.{isOutlet}
 use Rattle.ground.specs.Forest.{Forest, tree, grow, forest}
 use Rattle.ground.proofs.Cells.{ground-inflows, flow-ground, points-flow}
 use Rattle.ground.proofs.GridNetwork.{inflows-induct}
 use Rattle.ground.proofs.Ground.{sub-size, sub-equation, forest-equation}
-use Rattle.search.specs.Search.{
-  State,
-  fresh,
-  meetIf,
-  Rule,
-  tracingRule,
-  drops,
-  dropCells,
-  visit,
-  searchAbove,
-  searchFrom,
-}
+use Rattle.search.specs.Search.{State, fresh, Rule, drops, dropCells, visit, searchAbove, searchFrom}
 use Rattle.search.specs.Neighbours.{unlessOutlet, inflowIn, cellsIn, turnTo, enter}
 use Rattle.search.proofs.Dropping.{search-dropped, search-entered}
-use Rattle.search.proofs.Faithful.{headwater-is}
 
 module _ (𝓛 : Lengths Dir) (rule : Rule 𝓛) (g : Grid) (outlets : List ℕ) where
   open Lengths 𝓛 using (Len, start, _▹_)
@@ -100,22 +88,6 @@ module _ (𝓛 : Lengths Dir) (rule : Rule 𝓛) (g : Grid) (outlets : List ℕ)
   search-enters a h o v = ap (searchAbove 𝓛 rule start (visit 𝓛 rule (fresh 𝓛) o start (forest g outlets o)))
       (forest-equation g a h outlets o v ∙ ap (grow (inflows g) (λ c. member c outlets) (forest g outlets))
       (ground-inflows g o v))
-
--- in a tracing a cell meets its length if its subaccumulation is 1
-pub visit-is : (𝓛 : Lengths Dir) (dropping : Bool) (g : Grid) (outlets a : List ℕ) → agrees g a ≡ true
-    → (st : State 𝓛) (y : ℕ) (l : 𝓛 .Len) → ground g y ≡ true
-    → visit 𝓛 (tracingRule 𝓛 dropping) st y l (forest g outlets y)
-    ≡ record {
-      starts = meetIf 𝓛 (isHeadwater g outlets y) (st .starts) (record { cell = y; len = l });
-      visited = st .visited + 1;
-      dropped = st .dropped;
-    }
-visit-is 𝓛 dropping g outlets a h st y l v =
-    ap (λ (b : Bool). record {
-      starts = meetIf 𝓛 b (st .starts) (record { cell = y; len = l });
-      visited = st .visited + 1;
-      dropped = st .dropped;
-    }) (headwater-is g a h outlets y v)
 
 -- ---- by what a direction holds
 

@@ -9,14 +9,15 @@ use native.Mathlib.Omega.{arith}
 use lib.ListN.{length}
 use Rattle.lengths.specs.Lengths.{Lengths}
 use Rattle.lengths.proofs.Laws.{LengthLaws}
-use Rattle.ground.specs.Compass.{squares}
+use Rattle.ground.specs.Compass.{Dir, squares}
 use Rattle.ground.specs.Grid.{Grid, ground}
 use Rattle.ground.specs.Walk.{At}
 use Rattle.ground.specs.Accumulation.{agrees}
-use Rattle.ground.specs.Forest.{Forest, bare, tree, size, forest, cellsAbove}
+use Rattle.ground.specs.Forest.{Forest, bare, tree, size, Which, forest, cellsAbove}
 use Rattle.ground.proofs.Ground.{squares-laws, sub-size}
 use Rattle.search.specs.Search.{State, fresh, meetIf, belowGreatest, Rule, tightLimit, firstRule, limitedBy, tracingRule}
 use Rattle.search.specs.Search.{drops, dropCells, visit, searchAbove, searchFrom}
+use Rattle.search.specs.Editions.{meetsBy}
 use Rattle.search.specs.Tracing.{firstLength, tracingBy, tracing, firstTracing}
 use Rattle.search.specs.Tighter.{Tighter}
 use Rattle.search.proofs.Meeting.{le-lt, meets, meets-keep}
@@ -125,26 +126,30 @@ module _ {S : Type 0} (𝓛 : Lengths S) (laws : LengthLaws 𝓛) (rule : Rule �
   tightest o above = behind start above (visit 𝓛 tight (fresh 𝓛) o start above) (visit 𝓛 rule (fresh 𝓛) o start above)
       (record { same-starts = refl; no-more-visited = omega arith })
 
--- on every grid, from every cell, with and without dropping
-module _ (dropping : Bool) (g : Grid) (outlets : List ℕ) (o : ℕ) where
-  beside-first : Behind squares (searchFrom squares (tracingRule squares dropping) o (forest g outlets o))
-      (searchFrom squares (firstRule squares dropping) o (forest g outlets o))
-  beside-first = tightest squares squares-laws (firstRule squares dropping) (first-covers squares squares-laws) o
+-- on every grid, from every cell, by either edition, with and without dropping
+module _ (edition : ℕ) (dropping : Bool) (g : Grid) (outlets : List ℕ) (o : ℕ) where
+  abbrev where-met : Which Dir
+  where-met = meetsBy edition g outlets o
+
+  beside-first : Behind squares (searchFrom squares (tracingRule squares where-met dropping) o (forest g outlets o))
+      (searchFrom squares (firstRule squares where-met dropping) o (forest g outlets o))
+  beside-first = tightest squares squares-laws (firstRule squares where-met dropping) (first-covers squares squares-laws) o
       (forest g outlets o)
 
-  pub no-more-visited : (tracing dropping g outlets o) .visited ≤ (firstTracing dropping g outlets o) .visited
+  pub no-more-visited : (tracing edition dropping g outlets o) .visited ≤ (firstTracing edition dropping g outlets o) .visited
   unfolding tracingBy
   no-more-visited = beside-first .no-more-visited
 
--- THE THEOREM, on every grid with an accumulation, from every outlet, with and without dropping
+-- THE THEOREM, on every grid with an accumulation, from every outlet, by either edition, with and without dropping
 pub tighter : (g : Grid) (a : List ℕ) → agrees g a ≡ true → (outlets : List ℕ) (o : ℕ) → ground g o ≡ true
-    → (dropping : Bool) → Tighter g outlets o (tracing dropping g outlets o) (firstTracing dropping g outlets o)
+    → (edition : ℕ) (dropping : Bool)
+    → Tighter g outlets o (tracing edition dropping g outlets o) (firstTracing edition dropping g outlets o)
 unfolding tracingBy
-tighter g a h outlets o v dropping =
-    let t = beside-first dropping g outlets o in
+tighter g a h outlets o v edition dropping =
+    let t = beside-first edition dropping g outlets o in
     let cells = sub-size g a h outlets o v in
-    let sum = search-all squares (tracingRule squares dropping) o (forest g outlets o) in
-    let first-sum = search-all squares (firstRule squares dropping) o (forest g outlets o) in
+    let sum = search-all squares (tracingRule squares (meetsBy edition g outlets o) dropping) o (forest g outlets o) in
+    let first-sum = search-all squares (firstRule squares (meetsBy edition g outlets o) dropping) o (forest g outlets o) in
     record {
       same-starts = ap (map (λ x. x .cell)) (t .same-starts);
       same-len = ap firstLength (t .same-starts);

@@ -1,7 +1,7 @@
 -- DEMAND 3, the promise of every tracing, in one record.
 -- Assumes nothing.
 use mathlib.Core.Path.{_≡_}
-use mathlib.Core.Bool.{Bool, true}
+use mathlib.Core.Bool.{Bool}
 use mathlib.Core.Logic.{_↔_}
 use mathlib.Core.List.{List}
 use Prim.Native.Nat.{ℕ, _+_, _≤_, _<_}
@@ -12,13 +12,10 @@ use Rattle.ground.specs.Accumulation.{subaccumulation}
 use Rattle.ground.specs.Subwatershed.{inSubwatershed, HasLength, Before, Longest}
 use Rattle.search.specs.Tracing.{Tracing, longestLength, pathCount, startCells}
 
--- any cell may start
-abbrev pub anyCell : ℕ → Bool
-anyCell c = true
-
--- of what is told of the outlet o, beside what is told of it without dropping
+-- of what is told of the outlet o, beside what is told of it without dropping, where these cells may start: by edition 1
+-- all, by edition 2 the divide cells alone
 pub record Demand3 (g : Grid) (outlets : List ℕ) (may : ℕ → Bool) (o : ℕ) (t plain : Tracing) : Type 0 where
-  -- the starts are exactly the cells of the subwatershed whose walk none exceeds
+  -- the starts are exactly the cells of the subwatershed that may start and whose walk none of these exceeds
   pub exact : (c : ℕ) → In c (startCells t) ↔ Longest g outlets may o c
   -- each once
   pub once : Sorted (λ x y. x ≡ y → ⊥) (startCells t)

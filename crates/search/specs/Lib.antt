@@ -1,4 +1,5 @@
 pub mod Search
+pub mod Editions
 pub mod Neighbours
 pub mod Tracing
 pub mod Demand

@@ -69,17 +69,17 @@ module _ {S : Type 0} (𝓛 : Lengths S) where
   abbrev pub tightLimit : Limit
   tightLimit d s n = farthest 𝓛 (d ▹ s) (n - 1)
 
-  -- 01's rule: lengths are met at headwaters
-  abbrev pub firstRule : Bool → Rule
-  firstRule dropping = record { dropping = dropping; limit = firstLimit; meets = headwater }
+  -- 01's rule, with lengths met at these cells; 01's own are the headwaters
+  abbrev pub firstRule : Which S → Bool → Rule
+  firstRule meets dropping = record { dropping = dropping; limit = firstLimit; meets = meets }
 
   -- a rule by another limit, and else the same
   abbrev pub limitedBy : Limit → Rule → Rule
   limitedBy limit rule = record { dropping = rule .dropping; limit = limit; meets = rule .meets }
 
   -- the rule of every tracing: 01's, by 02's limit
-  abbrev pub tracingRule : Bool → Rule
-  tracingRule dropping = limitedBy tightLimit (firstRule dropping)
+  abbrev pub tracingRule : Which S → Bool → Rule
+  tracingRule meets dropping = limitedBy tightLimit (firstRule meets dropping)
 
   -- 01: a neighbour with its n cells is dropped if even its limit is shorter than the greatest length met; at equal
   -- length it is not, since it may tie

@@ -11,6 +11,7 @@ use Rattle.ground.specs.Grid.{Grid}
 use Rattle.ground.specs.Walk.{At}
 use Rattle.ground.specs.Forest.{forest}
 use Rattle.search.specs.Search.{State, Rule, firstRule, tracingRule, searchFrom}
+use Rattle.search.specs.Editions.{meetsBy}
 
 -- 01, check 20: so many numbers of the working space are asked for each cell of the subwatershed
 abbrev pub numbersEach : ℕ
@@ -40,10 +41,10 @@ module _ (t : Tracing) where
 unfoldable pub tracingBy : Rule squares → Grid → List ℕ → ℕ → Tracing
 tracingBy rule g outlets o = searchFrom squares rule o (forest g outlets o)
 
--- with or without dropping
-abbrev pub tracing : Bool → Grid → List ℕ → ℕ → Tracing
-tracing dropping = tracingBy (tracingRule squares dropping)
+-- by an edition, with or without dropping
+abbrev pub tracing : ℕ → Bool → Grid → List ℕ → ℕ → Tracing
+tracing edition dropping g outlets o = tracingBy (tracingRule squares (meetsBy edition g outlets o) dropping) g outlets o
 
--- by 01's rule, to be compared with
-abbrev pub firstTracing : Bool → Grid → List ℕ → ℕ → Tracing
-firstTracing dropping = tracingBy (firstRule squares dropping)
+-- by 01's limit, to be compared with
+abbrev pub firstTracing : ℕ → Bool → Grid → List ℕ → ℕ → Tracing
+firstTracing edition dropping g outlets o = tracingBy (firstRule squares (meetsBy edition g outlets o) dropping) g outlets o
