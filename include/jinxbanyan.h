@@ -13,7 +13,7 @@
    14 the accumulation does not agree      22 the start is not in the outlet's subwatershed
    15 no outlet, or more than 256          23 the lent places too few
    16 an outlet beyond the grid or null    24 a table number not 1 to 3
-   17 an outlet twice
+   17 an outlet twice                      25 an edition not 1 or 2
    1 to 9 are a sheet's: see jb_read_sheet.
 
    The ten codes of a cell are 0 (null, no ground), 255 (a pond: ground that drains nowhere; a walk ends at it) and those of
@@ -64,38 +64,43 @@ uint32_t jb_flow_lengths(size_t rows, size_t cols, const uint8_t *codes, size_t 
 uint32_t jb_convert(uint32_t from, uint32_t to, size_t rows, size_t cols, const uint8_t *codes, size_t codes_count,
                     uint8_t *converted, size_t converted_count);
 
-/* 10, 11, 12, 14 to 18, 20, 21. Traces all longest paths to the outlet at a place of the list, counted from 0. Dropping is
-   0 or not: with it a side valley is left out in which every walk must be shorter than one met before, and only visited
-   and dropped differ. Writes the subaccumulation, and the starts in order. The working space takes three numbers for each
-   of the outlet's cells. results: straight, diagonal, paths, visited, dropped.
+/* 25, 10, 11, 12, 14 to 18, 20, 21. Traces all longest paths to the outlet at a place of the list, counted from 0.
+   edition is that of the standard, 1 or 2, and says where a path may start: by 1 at any cell, which for a longest path is
+   a headwater; by 2 on the divide only, at a cell that has, among its eight neighbours, one off the grid, null, or outside
+   the outlet's subwatershed, as an upper outlet and its cells are. Such a start need not be a headwater, and only walks
+   from the divide are compared.
+   Dropping is 0 or not: with it a side valley is left out in which every walk must be shorter than one met before, and
+   only visited and dropped differ. Writes the subaccumulation, and the starts in order. The working space takes three
+   numbers for each of the outlet's cells. results: straight, diagonal, paths, visited, dropped.
    20 leaves the subaccumulation written. 21 leaves it too, fills the list with the first starts, and tells 0, 0, the true
    number of paths, visited and dropped; any other refusal tells five zeros. On acceptance and 21 the working numbers that
    are asked for are 0. */
-uint32_t jb_trace_by_stack(size_t rows, size_t cols, const uint8_t *codes, size_t codes_count,
+uint32_t jb_trace_by_stack(uint32_t edition, size_t rows, size_t cols, const uint8_t *codes, size_t codes_count,
                            const uint32_t *accumulation, size_t accumulation_count, const uint32_t *outlets,
                            size_t outlets_count, size_t place, uint32_t dropping, uint32_t *subaccumulation,
                            size_t subaccumulation_count, uint32_t *starts, size_t starts_count, uint32_t *work,
                            size_t work_count, uint32_t results[5]);
 
 /* The same by recursion, without working space: 19 in place of 20. It takes up to 2 MiB of stack. */
-uint32_t jb_trace_by_recursion(size_t rows, size_t cols, const uint8_t *codes, size_t codes_count,
+uint32_t jb_trace_by_recursion(uint32_t edition, size_t rows, size_t cols, const uint8_t *codes, size_t codes_count,
                                const uint32_t *accumulation, size_t accumulation_count, const uint32_t *outlets,
                                size_t outlets_count, size_t place, uint32_t dropping, uint32_t *subaccumulation,
                                size_t subaccumulation_count, uint32_t *starts, size_t starts_count,
                                uint32_t results[5]);
 
-/* 10, 11, 12, 14 to 17, 20, 23, 21. Traces all longest paths to every outlet of the list, in its order, as
-   jb_trace_by_stack does with dropping, and tests the accumulation once for all. Writes the subaccumulation, the starts of
-   all outlets run together, and how many each outlet has, a count for each: jb_starts_of finds those of one. The working
-   space takes three numbers for each cell of the listed outlet that has the most. sums: the cells visited and those
-   dropped, over all outlets.
+/* 25, 10, 11, 12, 14 to 17, 20, 23, 21. Traces all longest paths to every outlet of the list, in its order, as
+   jb_trace_by_stack does by that edition with dropping, and tests the accumulation once for all. Writes the
+   subaccumulation, the starts of all outlets run together, and how many each outlet has, a count for each: jb_starts_of
+   finds those of one. The working space takes three numbers for each cell of the listed outlet that has the most. sums:
+   the cells visited and those dropped, over all outlets.
    23 is for fewer count places than outlets, 21 for fewer list places than all outlets have starts. 20 and 23 leave the
    subaccumulation written. 21 leaves it too and tells the sums, but the list and the counts stay as they were; any other
    refusal tells two zeros. On acceptance and 21 the working numbers that are asked for are 0. */
-uint32_t jb_trace_all(size_t rows, size_t cols, const uint8_t *codes, size_t codes_count, const uint32_t *accumulation,
-                      size_t accumulation_count, const uint32_t *outlets, size_t outlets_count,
-                      uint32_t *subaccumulation, size_t subaccumulation_count, uint32_t *starts, size_t starts_count,
-                      uint32_t *counts, size_t counts_count, uint32_t *work, size_t work_count, uint32_t sums[2]);
+uint32_t jb_trace_all(uint32_t edition, size_t rows, size_t cols, const uint8_t *codes, size_t codes_count,
+                      const uint32_t *accumulation, size_t accumulation_count, const uint32_t *outlets,
+                      size_t outlets_count, uint32_t *subaccumulation, size_t subaccumulation_count, uint32_t *starts,
+                      size_t starts_count, uint32_t *counts, size_t counts_count, uint32_t *work, size_t work_count,
+                      uint32_t sums[2]);
 
 /* The part of a list of starts that is one outlet's, by the counts that jb_trace_all wrote. choice is the outlet's place in
    the list of outlets, counted from 0. part: where it begins in starts, and how many it has. Both are 0 where it is empty:

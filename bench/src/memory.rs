@@ -9,7 +9,7 @@ use crate::grounds::comb;
 use crate::measure::peak;
 use crate::plain::{self, Rule};
 use crate::tables::table;
-use crate::trials::{accepted, FROM, LIST, OUTLETS, TO};
+use crate::trials::{accepted, EDITION, FROM, LIST, OUTLETS, TO};
 
 /// The side of the comb on which memory is measured.
 const SIDE: usize = 4096;
@@ -163,6 +163,7 @@ fn accumulated(who: &str, work: &str, codes: &[u8]) -> usize {
                 }
                 ("library", "trace by stack") => {
                     accepted(jinxbanyan::trace_by_stack(
+                        EDITION,
                         SIDE,
                         SIDE,
                         codes,
@@ -194,6 +195,7 @@ fn accumulated(who: &str, work: &str, codes: &[u8]) -> usize {
                 }
                 ("library", "trace all") => {
                     accepted(jinxbanyan::trace_all(
+                        EDITION,
                         SIDE,
                         SIDE,
                         codes,

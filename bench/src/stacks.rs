@@ -3,7 +3,7 @@
 use crate::grounds::serpent;
 use crate::measure::stack;
 use crate::tables::{grouped, table};
-use crate::trials::{accepted, largest, FROM, LIST, MOST_BY_RECURSION, TO};
+use crate::trials::{accepted, largest, EDITION, FROM, LIST, MOST_BY_RECURSION, TO};
 
 /// The stack that each call takes on a serpent, its outlet the lowest cell that has 4,096 at most.
 pub fn stacks() {
@@ -80,6 +80,7 @@ fn stacks_of(side: usize) -> Vec<(&'static str, usize)> {
     for (name, dropping) in [("trace by stack", false), ("trace by stack, dropping", true)] {
         let bytes = stack(|| {
             accepted(jinxbanyan::trace_by_stack(
+                EDITION,
                 side,
                 side,
                 codes,
@@ -97,6 +98,7 @@ fn stacks_of(side: usize) -> Vec<(&'static str, usize)> {
     }
     let trace_all = stack(|| {
         accepted(jinxbanyan::trace_all(
+            EDITION,
             side,
             side,
             codes,
@@ -114,6 +116,7 @@ fn stacks_of(side: usize) -> Vec<(&'static str, usize)> {
     {
         let bytes = stack(|| {
             accepted(jinxbanyan::trace_by_recursion(
+                EDITION,
                 side,
                 side,
                 codes,

@@ -28,6 +28,9 @@ pub use tracing::{Visits, MOST_BY_RECURSION};
 pub const FROM: u32 = 1;
 pub const TO: u32 = 2;
 
+/// The edition of the standard that is traced by.
+pub const EDITION: u32 = 1;
+
 /// The Rust implementation walks from every cell, to trace and for flow lengths, where its walks
 /// have no more steps than this, all together.
 pub const MOST_STEPS: u64 = 4_000_000_000;

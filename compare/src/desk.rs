@@ -5,6 +5,9 @@ use std::fmt::Write;
 use crate::entries::{self, Kind, Terrain, MOST_OUTLETS};
 use crate::{sheet, Refusal};
 
+/// The edition that the desk program traces by.
+const EDITION: u32 = 1;
+
 /// Places of the desk program's grids and of its list of starts.
 const PLACES: usize = 4096;
 
@@ -37,6 +40,7 @@ fn report(file: &[u8]) -> Result<String, Refusal> {
     let mut work = [0; 3 * PLACES];
     for place in 0..outlets.len().max(1) {
         let tracing = entries::trace_by_stack(
+            EDITION,
             terrain,
             outlets,
             place,

@@ -8,6 +8,7 @@
 mod all_outlets;
 mod tracing;
 
+use crate::editions::Edition;
 use crate::flow_lengths::FlowLengths;
 use crate::ground::{is_code, Ground};
 use crate::subwatershed::Division;
@@ -82,6 +83,11 @@ fn checked_outlets<'a>(ground: Ground<'a>, outlets: &[u32]) -> Result<Division<'
     let different = (1..outlets.len()).all(|place| !outlets[..place].contains(&outlets[place]));
     check(17, different)?;
     Ok(Division::new(ground, outlets))
+}
+
+/// Check 25: the edition that a tracing is by.
+fn checked_edition(number: u32) -> Result<Edition, Refusal> {
+    Edition::numbered(number).ok_or(Refusal(25))
 }
 
 /// Check 18: the outlet at a place of the list, counted from 0.

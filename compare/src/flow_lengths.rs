@@ -28,11 +28,9 @@ impl Division<'_> {
         let mut lengths =
             vec![FlowLengths { down: Length::ZERO, up: Length::ZERO }; ground.cells()];
         let mut starts = Vec::new();
-        for cell in ground.solid() {
-            if let Some(meeting) = self.meeting(cell) {
-                lengths[cell].down = meeting.length;
-                starts.push(cell);
-            }
+        for &(cell, meeting) in self.meetings() {
+            lengths[cell].down = meeting.length;
+            starts.push(cell);
         }
         starts.sort_by_key(|&cell| Reverse(lengths[cell].down));
         let mut reached = vec![false; ground.cells()];
@@ -51,15 +49,16 @@ impl Division<'_> {
 }
 
 #[cfg(test)]
-mod tests {
+pub(crate) mod tests {
     use super::*;
+    use crate::editions::Starts;
     use crate::ground::Ground;
     use crate::random::Random;
     use crate::subwatershed::tests::every_division;
 
     /// Divisions of every grid of four cells, and of many larger ones whose cells flow east or
     /// south, so that there is no ring, or are ponds.
-    fn many_divisions(judge: impl Fn(&Division, &[u32])) {
+    pub(crate) fn many_divisions(judge: impl Fn(&Division, &[u32])) {
         every_division(&judge);
         let mut random = Random::new(1);
         for _ in 0..3000 {
@@ -112,7 +111,7 @@ mod tests {
         many_divisions(|division, outlets| {
             let lengths = division.flow_lengths();
             for outlet in outlets.iter().map(|&outlet| outlet as usize) {
-                let longest = division.longest(outlet);
+                let longest = division.longest(&Starts::Anywhere, outlet);
                 let paths =
                     longest.starts.iter().map(|&start| division.path(start as usize, outlet));
                 let on_paths: Vec<u32> = paths.flatten().collect();

@@ -8,6 +8,7 @@
 //! * lengths by walking from every cell, upstream ones by whose walk comes
 //!   first if the longest is walked first;
 //! * exact comparison of lengths by integer square roots;
+//! * the divide by walking from every cell, its neighbours with it;
 //! * the order of starts by comparing whole routes read upward;
 //! * visited and dropped by plain recursion over an explicit tree;
 //! * codes of other tables by the step that they mean, found by turning around
@@ -18,6 +19,7 @@
 //! | [`ground`] | codes, neighbours, walks, rings, accumulation |
 //! | [`lengths`] | a + b√2 and its order |
 //! | [`subwatershed`] | outlets, subaccumulation, longest starts, paths |
+//! | [`editions`] | where a path may start: anywhere, or on the divide |
 //! | [`flow_lengths`] | each cell's lengths downstream and upstream |
 //! | [`search`] | visited and dropped |
 //! | [`tables`] | the three tables of codes, and a code of one in another |
@@ -28,6 +30,7 @@
 //! [`random`] is no part of it: numbers from a seed, for the programs that try this reading.
 
 pub mod desk;
+pub mod editions;
 pub mod entries;
 pub mod flow_lengths;
 pub mod ground;

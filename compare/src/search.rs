@@ -1,6 +1,7 @@
 //! The search and what it counts, by recursion over the whole tree of a
 //! subwatershed.
 
+use crate::editions::Starts;
 use crate::lengths::Length;
 use crate::subwatershed::Division;
 
@@ -60,9 +61,11 @@ pub struct Search {
     pub diagonal_drops: u32,
     /// Neighbours entered whose limit equals the greatest length met.
     pub equal_limits: u32,
-    /// The greatest length met; none before the first headwater.
+    /// Headwaters visited at which no length is met.
+    pub met_in_vain: u32,
+    /// The greatest length met; none before the first.
     pub greatest: Option<Length>,
-    /// The headwaters where it was met, as they were visited.
+    /// The cells where it was met, as they were visited.
     pub starts: Vec<u32>,
 }
 
@@ -116,23 +119,24 @@ impl Tree {
         self.nodes[ROOT].cells
     }
 
-    /// The search from the outlet, dropping by a limit or not at all. Recursion
-    /// goes as deep as the longest route has cells; the caller's stack must
-    /// bear that.
-    pub fn search(&self, dropping: Option<Limit>) -> Search {
+    /// The search from the outlet, meeting lengths where these starts say,
+    /// dropping by a limit or not at all. Recursion goes as deep as the longest
+    /// route has cells; the caller's stack must bear that.
+    pub fn search(&self, starts: &Starts, dropping: Option<Limit>) -> Search {
         let mut search = Search::default();
-        self.visit(ROOT, dropping, &mut search);
+        self.visit(ROOT, starts, dropping, &mut search);
         search
     }
 
-    /// Visits a cell before its inflows, and finishes one inflow before it
-    /// turns to the next. At a headwater, a cell of subaccumulation 1, it
-    /// meets a length.
-    fn visit(&self, here: usize, dropping: Option<Limit>, search: &mut Search) {
+    /// Visits a cell, and meets a length there or does not, before its inflows;
+    /// and finishes one inflow before it turns to the next.
+    fn visit(&self, here: usize, starts: &Starts, dropping: Option<Limit>, search: &mut Search) {
         let node = &self.nodes[here];
         search.visited += 1;
-        if node.cells == 1 {
+        if starts.met_at(node.cell as usize, node.cells) {
             search.meet(node.cell, node.length);
+        } else if node.cells == 1 {
+            search.met_in_vain += 1;
         }
         for &Inflow { place, diagonal } in &node.inflows {
             let n = self.nodes[place].cells;
@@ -141,7 +145,7 @@ impl Tree {
                 search.drop(n, diagonal);
             } else {
                 search.equal_limits += u32::from(limit.is_some() && limit == search.greatest);
-                self.visit(place, dropping, search);
+                self.visit(place, starts, dropping, search);
             }
         }
     }
@@ -158,11 +162,11 @@ mod tests {
     use super::*;
     use crate::ground::tests::every_list;
     use crate::ground::{Ground, NULL, POND};
-    use crate::subwatershed::tests::every_division;
+    use crate::subwatershed::tests::{editions, every_division};
 
     fn search(rows: usize, cols: usize, codes: &[u8], outlet: u32, limit: Limit) -> Search {
         let division = Division::new(Ground::new(rows, cols, codes), &[outlet]);
-        Tree::above(&division, outlet as usize).search(Some(limit))
+        Tree::above(&division, outlet as usize).search(&Starts::Anywhere, Some(limit))
     }
 
     /// Visited and dropped, by the first limit and by the step's.
@@ -258,23 +262,31 @@ mod tests {
         })
     }
 
-    /// All searches list the longest starts and count every cell; by the step's
-    /// limit no more are visited than by the first. Tells whether fewer are.
+    /// By either edition all searches list its longest starts and count every
+    /// cell; by the step's limit no more are visited than by the first, and by
+    /// edition 2 no fewer than by edition 1. Tells whether by the step's limit
+    /// fewer are.
     fn visits_fewer(division: &Division, outlet: usize) -> bool {
         let tree = Tree::above(division, outlet);
         let cells = division.subaccumulation()[outlet];
         assert_eq!(tree.cells(), cells);
-        let longest = division.longest(outlet);
-        let [whole, first, step] =
-            [None, Some(Limit::First), Some(Limit::Step)].map(|limit| tree.search(limit));
-        assert_eq!((whole.visited, whole.dropped), (cells, 0));
-        for found in [&whole, &first, &step] {
-            assert_eq!(found.visited + found.dropped, cells);
-            assert_eq!(found.greatest, Some(longest.length));
-            assert_eq!(found.starts, longest.starts);
-        }
-        assert!(step.visited <= first.visited && step.dropped >= first.dropped);
-        step.visited < first.visited
+        let mut fewer = false;
+        let [first, second] = editions(division).map(|starts| {
+            let longest = division.longest(&starts, outlet);
+            let [whole, first, step] = [None, Some(Limit::First), Some(Limit::Step)]
+                .map(|limit| tree.search(&starts, limit));
+            assert_eq!((whole.visited, whole.dropped), (cells, 0));
+            for found in [&whole, &first, &step] {
+                assert_eq!(found.visited + found.dropped, cells);
+                assert_eq!(found.greatest, Some(longest.length));
+                assert_eq!(found.starts, longest.starts);
+            }
+            assert!(step.visited <= first.visited && step.dropped >= first.dropped);
+            fewer |= step.visited < first.visited;
+            step
+        });
+        assert!(first.visited <= second.visited && first.greatest >= second.greatest);
+        fewer
     }
 
     #[test]

@@ -1,8 +1,10 @@
 //! Outlets and what lies above them: subaccumulation, subwatersheds, the
 //! longest walks and the order of their starts.
 
+use std::cell::OnceCell;
 use std::collections::HashMap;
 
+use crate::editions::Starts;
 use crate::ground::{Ground, Step};
 use crate::lengths::Length;
 
@@ -13,6 +15,8 @@ pub struct Division<'a> {
     is_outlet: Vec<bool>,
     /// The step from each cell, looked up once.
     steps: Vec<Option<Step>>,
+    /// What `meetings` tells, once it has been asked for.
+    meetings: OnceCell<Vec<(usize, Meeting)>>,
 }
 
 /// Where a walk first meets an outlet, and how long it is up to there.
@@ -22,31 +26,16 @@ pub struct Meeting {
     pub length: Length,
 }
 
-/// The longest walks of a subwatershed.
+/// The longest walks of a subwatershed, from cells where a path may start.
 #[derive(Debug, PartialEq, Eq)]
 pub struct Longest {
     pub length: Length,
-    /// All cells whose walk has that length, in order.
+    /// All such cells whose walk has that length, in order.
     pub starts: Vec<u32>,
 }
 
-impl Longest {
-    /// Before any walk is known.
-    fn of_none() -> Longest {
-        Longest { length: Length::ZERO, starts: Vec::new() }
-    }
-
-    /// One more walk is known.
-    fn meet(&mut self, cell: usize, length: Length) {
-        if length > self.length {
-            self.length = length;
-            self.starts.clear();
-        }
-        if length == self.length {
-            self.starts.push(cell as u32);
-        }
-    }
-}
+/// A cell, and the length of its walk to its outlet.
+type Walk = (usize, Length);
 
 impl<'a> Division<'a> {
     pub fn new(ground: Ground<'a>, outlets: &[u32]) -> Self {
@@ -58,7 +47,7 @@ impl<'a> Division<'a> {
         for cell in ground.solid() {
             steps[cell] = ground.step(cell);
         }
-        Division { ground, is_outlet, steps }
+        Division { ground, is_outlet, steps, meetings: OnceCell::new() }
     }
 
     pub fn ground(&self) -> Ground<'a> {
@@ -95,6 +84,15 @@ impl<'a> Division<'a> {
         self.is_outlet(outlet).then_some(Meeting { outlet, length })
     }
 
+    /// The cells of all subwatersheds by number, each with its meeting. Every
+    /// non-null cell is walked from, once for all that ask.
+    pub fn meetings(&self) -> &[(usize, Meeting)] {
+        self.meetings.get_or_init(|| {
+            let solid = self.ground.solid();
+            solid.filter_map(|cell| Some((cell, self.meeting(cell)?))).collect()
+        })
+    }
+
     /// Is this a cell number of the outlet's subwatershed: the outlet, and
     /// each cell whose walk meets it before any other outlet?
     pub fn belongs(&self, cell: usize, outlet: usize) -> bool {
@@ -110,35 +108,35 @@ impl<'a> Division<'a> {
     }
 
     /// The longest walks to the outlet: every cell of the subwatershed is
-    /// walked from, no length is greater than theirs, and all of them are
-    /// listed. Two are ordered where their routes, read upward, part.
-    pub fn longest(&self, outlet: usize) -> Longest {
-        let mut longest = Longest::of_none();
-        for cell in self.ground.solid() {
-            match self.meeting(cell) {
-                Some(meeting) if meeting.outlet == outlet => longest.meet(cell, meeting.length),
-                _ => {}
-            }
-        }
-        self.in_order(longest, outlet)
+    /// walked from, of those where a path may start no length is greater than
+    /// theirs, and all of them are listed. Two are ordered where their routes,
+    /// read upward, part.
+    pub fn longest(&self, starts: &Starts, outlet: usize) -> Longest {
+        let meetings = self.meetings().iter().filter(|(_, meeting)| meeting.outlet == outlet);
+        let walks = meetings.map(|&(cell, meeting)| (cell, meeting.length));
+        self.longest_among(walks.collect(), starts, outlet)
     }
 
     /// The same for each of the outlets, with a single walk from each cell: it
     /// counts for the outlet that it meets.
-    pub fn longest_of_each(&self, outlets: &[u32]) -> Vec<Longest> {
-        let mut known: HashMap<usize, Longest> = HashMap::new();
-        for cell in self.ground.solid() {
-            if let Some(Meeting { outlet, length }) = self.meeting(cell) {
-                known.entry(outlet).or_insert_with(Longest::of_none).meet(cell, length);
-            }
+    pub fn longest_of_each(&self, starts: &Starts, outlets: &[u32]) -> Vec<Longest> {
+        let mut known: HashMap<usize, Vec<Walk>> = HashMap::new();
+        for &(cell, Meeting { outlet, length }) in self.meetings() {
+            known.entry(outlet).or_default().push((cell, length));
         }
-        let mut longest = |outlet| known.remove(&outlet).expect("an outlet meets itself");
-        outlets.iter().map(|&o| self.in_order(longest(o as usize), o as usize)).collect()
+        let mut walks = |outlet| known.remove(&outlet).expect("an outlet meets itself");
+        let mut longest = |outlet| self.longest_among(walks(outlet), starts, outlet);
+        outlets.iter().map(|&outlet| longest(outlet as usize)).collect()
     }
 
-    fn in_order(&self, mut longest: Longest, outlet: usize) -> Longest {
-        longest.starts.sort_by_cached_key(|&start| self.route_upward(start as usize, outlet));
-        longest
+    fn longest_among(&self, mut walks: Vec<Walk>, starts: &Starts, outlet: usize) -> Longest {
+        walks.retain(|&(cell, _)| starts.has(cell));
+        let length = walks.iter().map(|&(_, length)| length).max();
+        let length = length.expect("a cell of the first row is on the divide");
+        walks.retain(|&(_, other)| other == length);
+        let mut starts: Vec<u32> = walks.into_iter().map(|(cell, _)| cell as u32).collect();
+        starts.sort_by_cached_key(|&start| self.route_upward(start as usize, outlet));
+        Longest { length, starts }
     }
 
     /// The ways taken from the outlet up to a start of its subwatershed. Of
@@ -164,6 +162,7 @@ impl<'a> Division<'a> {
 #[cfg(test)]
 pub(crate) mod tests {
     use super::*;
+    use crate::editions::Edition;
     use crate::ground::tests::every_grid;
 
     /// Every grid of four cells without rings, under every list of outlets up to its order.
@@ -180,6 +179,11 @@ pub(crate) mod tests {
                 }
             }
         }
+    }
+
+    /// Where paths may start by each edition.
+    pub(crate) fn editions(division: &Division) -> [Starts; 2] {
+        [Edition::First, Edition::Second].map(|edition| division.starts(edition))
     }
 
     #[test]
@@ -203,9 +207,11 @@ pub(crate) mod tests {
         every_division(|division, outlets| {
             let backward: Vec<u32> = outlets.iter().rev().copied().collect();
             for list in [outlets, &backward] {
-                let each = division.longest_of_each(list);
-                let one_by_one = list.iter().map(|&outlet| division.longest(outlet as usize));
-                assert_eq!(each, one_by_one.collect::<Vec<Longest>>());
+                for starts in editions(division) {
+                    let each = division.longest_of_each(&starts, list);
+                    let longest = |&outlet: &u32| division.longest(&starts, outlet as usize);
+                    assert_eq!(each, list.iter().map(longest).collect::<Vec<Longest>>());
+                }
             }
         });
     }
@@ -216,7 +222,7 @@ pub(crate) mod tests {
         let division = Division::new(Ground::new(3, 3, &codes), &[7, 4]);
         let subaccumulation = division.subaccumulation();
         for outlet in [7, 4] {
-            for start in division.longest(outlet).starts {
+            for start in division.longest(&Starts::Anywhere, outlet).starts {
                 assert_eq!(subaccumulation[start as usize], 1);
             }
         }
@@ -239,10 +245,13 @@ pub(crate) mod tests {
         let division = Division::new(Ground::new(3, 3, &codes), &[4]);
         assert_eq!(division.subaccumulation()[4], 9);
         let longest = Longest { length: Length::new(0, 1), starts: vec![8, 6, 0, 2] };
-        assert_eq!(division.longest(4), longest);
+        assert_eq!(division.longest(&Starts::Anywhere, 4), longest);
         assert_eq!(division.path(8, 4), [8, 4]);
         let alone = Division::new(Ground::new(1, 1, &[255]), &[0]);
-        assert_eq!(alone.longest(0), Longest { length: Length::ZERO, starts: vec![0] });
+        assert_eq!(
+            alone.longest(&Starts::Anywhere, 0),
+            Longest { length: Length::ZERO, starts: vec![0] }
+        );
         assert_eq!(alone.path(0, 0), [0]);
     }
 
@@ -261,7 +270,7 @@ pub(crate) mod tests {
         // Ways up from cell 4: SE, SW, NW, NE are cells 8, 6, 0, 2.
         let codes = [2, 4, 8, 1, 4, 16, 128, 0, 32];
         let division = Division::new(Ground::new(3, 3, &codes), &[4]);
-        let longest = division.longest(4);
+        let longest = division.longest(&Starts::Anywhere, 4);
         assert_eq!(longest.length, Length::new(0, 1));
         assert_eq!(longest.starts, [8, 6, 0, 2]);
     }

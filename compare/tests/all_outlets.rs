@@ -27,9 +27,14 @@ fn lent([grid, starts, counts, work]: [usize; 4]) -> Lent {
     }
 }
 
+/// By edition 1.
 fn called(terrain: Terrain, outlets: &[u32], lent: &mut Lent) -> (u32, [u32; 2]) {
+    called_by(1, terrain, outlets, lent)
+}
+
+fn called_by(edition: u32, terrain: Terrain, outlets: &[u32], lent: &mut Lent) -> (u32, [u32; 2]) {
     let Lent { grid, starts, counts, work } = lent;
-    let answer = entries::trace_all(terrain, outlets, grid, starts, counts, work);
+    let answer = entries::trace_all(edition, terrain, outlets, grid, starts, counts, work);
     (answer.number(), answer.sums())
 }
 
@@ -136,16 +141,25 @@ fn early_refusals_change_nothing() {
     refused(16, TERRAIN, &[7, 7, 6], 9);
     refused(16, TERRAIN, &[7, 7, 9], 9);
     refused(17, TERRAIN, &[7, 4, 7], 9);
+    // 25 comes before all of them.
+    for edition in [0, 3, 257, 1 << 31 | 2, u32::MAX] {
+        for terrain in [TERRAIN, bad, Terrain { rows: 0, ..bad }] {
+            let mut left = lent([8, 0, 0, 0]);
+            assert_eq!(called_by(edition, terrain, &[], &mut left), (25, [0, 0]));
+            assert_eq!(left, lent([8, 0, 0, 0]));
+        }
+    }
 }
 
-/// What one tracing for each outlet gives: starts, counts, and the two sums.
-fn one_by_one(terrain: Terrain, outlets: &[u32]) -> (Vec<u32>, Vec<u32>, [u32; 2]) {
+/// What one tracing by that edition gives for each outlet: starts, counts, and the two sums.
+fn one_by_one(edition: u32, terrain: Terrain, outlets: &[u32]) -> (Vec<u32>, Vec<u32>, [u32; 2]) {
     let cells = terrain.codes.len();
     let (mut starts, mut counts, mut sums) = (Vec::new(), Vec::new(), [0; 2]);
     for place in 0..outlets.len() {
         let Lent { mut grid, starts: mut list, mut work, .. } = lent([cells, cells, 0, 3 * cells]);
-        let tracing =
-            entries::trace_by_stack(terrain, outlets, place, true, &mut grid, &mut list, &mut work);
+        let tracing = entries::trace_by_stack(
+            edition, terrain, outlets, place, true, &mut grid, &mut list, &mut work,
+        );
         let Kind::Found { paths, .. } = tracing.kind else { panic!("{tracing:?}") };
         starts.extend_from_slice(&list[..paths as usize]);
         counts.push(paths);
@@ -172,13 +186,14 @@ fn all_at_once_is_one_after_the_other() {
         }
         let accumulation = &ground.accumulation()[..];
         let terrain = Terrain { rows, cols, codes: &codes, accumulation };
-        let (starts, counts, sums) = one_by_one(terrain, &outlets);
+        let edition = random.pick(&[1, 2]);
+        let (starts, counts, sums) = one_by_one(edition, terrain, &outlets);
         let cells = codes.len();
         let mut left = lent([cells, starts.len(), counts.len(), 3 * cells]);
-        assert_eq!(called(terrain, &outlets, &mut left), (0, sums));
+        assert_eq!(called_by(edition, terrain, &outlets, &mut left), (0, sums));
         assert_eq!((&left.starts, &left.counts), (&starts, &counts));
         let mut left = lent([cells, starts.len() - 1, counts.len(), 3 * cells]);
-        assert_eq!(called(terrain, &outlets, &mut left), (21, sums));
+        assert_eq!(called_by(edition, terrain, &outlets, &mut left), (21, sums));
         assert!(sums[0] + sums[1] <= ground.solid().count() as u32);
         // The part for each outlet is its own list.
         let mut from = 0;

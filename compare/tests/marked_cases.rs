@@ -47,7 +47,7 @@ fn m4_diagonals() {
 
 #[test]
 fn m5_an_upper_outlet() {
-    let (_, _, grid) = M5.traced(0, true, 2);
+    let (_, _, grid) = M5.traced(1, 0, true, 2);
     assert_eq!((grid[7], grid[4]), (3, 6));
     assert_eq!(M5.has_longest(0, (1, 0), &[8, 6]), (3, 0));
     assert_eq!(M5.has_longest(1, (0, 1), &[0, 2]), (5, 1));
@@ -85,7 +85,7 @@ fn m10_a_wrong_accumulation() {
 #[test]
 fn m11_a_list_too_short() {
     for dropping in [false, true] {
-        let (tracing, list, grid) = M2.traced(0, dropping, 1);
+        let (tracing, list, grid) = M2.traced(1, 0, dropping, 1);
         assert_eq!(tracing.kind, Kind::NoPlace { paths: 2 });
         assert_eq!((tracing.visited, tracing.dropped), (3, 0));
         assert_eq!(tracing.results(), [0, 0, 2, 3, 0]);

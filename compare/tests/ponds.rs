@@ -46,7 +46,7 @@ fn paths_end_at_a_pond_outlet_like_any_other() {
 #[test]
 fn a_pond_fed_only_by_outlets_is_a_headwater() {
     let case = Case { outlets: &[1, 2, 0], ..TWO };
-    let (_, _, grid) = case.traced(0, true, 1);
+    let (_, _, grid) = case.traced(1, 0, true, 1);
     assert_eq!(grid, [1, 1, 1, 2, 1]);
     assert_eq!(case.has_longest(0, (0, 0), &[1]), (1, 0));
 }
@@ -54,7 +54,7 @@ fn a_pond_fed_only_by_outlets_is_a_headwater() {
 #[test]
 fn a_pond_that_is_no_outlet_has_no_subwatershed() {
     TWO.accumulates();
-    let (_, _, grid) = TWO.traced(0, true, 1);
+    let (_, _, grid) = TWO.traced(1, 0, true, 1);
     assert_eq!(grid, TWO.accumulation);
     assert_eq!(TWO.has_longest(0, (1, 0), &[4]), (2, 0));
     for start in 0..3 {

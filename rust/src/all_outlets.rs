@@ -2,8 +2,9 @@
 
 use crate::declared;
 
-/// Checks 10, 11, 12, 14 to 17, 20, 23, 21. Traces all longest paths to every outlet of the list, in
-/// its order, as `trace_by_stack` does with dropping, and tests the accumulation once for all.
+/// Checks 25, 10, 11, 12, 14 to 17, 20, 23, 21. Traces all longest paths to every outlet of the list,
+/// in its order, as `trace_by_stack` does by that edition with dropping, and tests the accumulation
+/// once for all.
 ///
 /// Leaves the subaccumulation in its first rows × cols places, the starts of all outlets, run
 /// together, in theirs, and how many each outlet has in the first counts: `starts_of` finds those of
@@ -16,6 +17,7 @@ use crate::declared;
 #[inline]
 #[must_use]
 pub fn trace_all(
+    edition: u32,
     rows: usize,
     cols: usize,
     codes: &[u8],
@@ -30,6 +32,7 @@ pub fn trace_all(
     // SAFETY: as the root says of every call.
     unsafe {
         declared::jb_trace_all(
+            edition,
             rows,
             cols,
             codes.as_ptr(),

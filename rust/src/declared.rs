@@ -67,6 +67,7 @@ extern "C" {
     ) -> u32;
 
     pub fn jb_trace_by_stack(
+        edition: u32,
         rows: usize,
         cols: usize,
         codes: *const u8,
@@ -87,6 +88,7 @@ extern "C" {
     ) -> u32;
 
     pub fn jb_trace_by_recursion(
+        edition: u32,
         rows: usize,
         cols: usize,
         codes: *const u8,
@@ -105,6 +107,7 @@ extern "C" {
     ) -> u32;
 
     pub fn jb_trace_all(
+        edition: u32,
         rows: usize,
         cols: usize,
         codes: *const u8,

@@ -2,10 +2,15 @@
 
 use crate::declared;
 
-/// Checks 10, 11, 12, 14 to 18, 20, 21. Traces all longest paths to the outlet at a place of the
+/// Checks 25, 10, 11, 12, 14 to 18, 20, 21. Traces all longest paths to the outlet at a place of the
 /// list, counted from 0; dropping is a `bool`, or a number that is 0 or not. With it a side valley
 /// is left out in which every walk must be shorter than one met before; only visited and dropped
 /// differ.
+///
+/// The edition is that of the standard and says where a path may start: by 1 at any cell, which for a
+/// longest path is a headwater; by 2 on the divide only, at a cell that has, among its eight
+/// neighbours, one off the grid, null, or outside the outlet's subwatershed, as an upper outlet and
+/// its cells are. Such a start need not be a headwater, and only walks from the divide are compared.
 ///
 /// Leaves the subaccumulation in its first rows × cols places and the starts, in order, in theirs.
 /// The working space takes three numbers for each of the outlet's cells, which end as 0. Results:
@@ -17,6 +22,7 @@ use crate::declared;
 #[inline]
 #[must_use]
 pub fn trace_by_stack(
+    edition: u32,
     rows: usize,
     cols: usize,
     codes: &[u8],
@@ -32,6 +38,7 @@ pub fn trace_by_stack(
     // SAFETY: as the root says of every call.
     unsafe {
         declared::jb_trace_by_stack(
+            edition,
             rows,
             cols,
             codes.as_ptr(),
@@ -57,6 +64,7 @@ pub fn trace_by_stack(
 #[inline]
 #[must_use]
 pub fn trace_by_recursion(
+    edition: u32,
     rows: usize,
     cols: usize,
     codes: &[u8],
@@ -71,6 +79,7 @@ pub fn trace_by_recursion(
     // SAFETY: as the root says of every call.
     unsafe {
         declared::jb_trace_by_recursion(
+            edition,
             rows,
             cols,
             codes.as_ptr(),

@@ -158,7 +158,7 @@ fn each_change_of_an_argument_is_told() {
         ),
         (
             ("uint32_t dropping", "size_t dropping"),
-            "jb_trace_by_stack, argument 10: the header has dropping: usize, \
+            "jb_trace_by_stack, argument 11: the header has dropping: usize, \
              declared is dropping: u32",
         ),
         (
@@ -173,13 +173,17 @@ fn each_change_of_an_argument_is_told() {
             "jb_write_sheet, argument 7: the header has file: *const u8, declared is file: *mut u8",
         ),
         (
+            ("jb_trace_all(uint32_t edition, ", "jb_trace_all("),
+            "jb_trace_all, argument 1: the header has rows: usize, declared is edition: u32",
+        ),
+        (
             ("uint32_t results[5]", "uint32_t results[6]"),
-            "jb_trace_by_stack, argument 17: the header has results: *mut [u32; 6], \
+            "jb_trace_by_stack, argument 18: the header has results: *mut [u32; 6], \
              declared is results: *mut [u32; 5]",
         ),
         (
             ("uint32_t sums[2]", "uint32_t sums[3]"),
-            "jb_trace_all, argument 17: the header has sums: *mut [u32; 3], \
+            "jb_trace_all, argument 18: the header has sums: *mut [u32; 3], \
              declared is sums: *mut [u32; 2]",
         ),
         (

@@ -13,7 +13,7 @@ fn trace(file: &[u8], starts: &mut [u32], results: &mut [u32; 5]) -> u32 {
     assert_eq!(read_sheet(file, codes, outlets, shape), 0);
     let (rows, cols, list) = (shape[0] as usize, shape[1] as usize, &outlets[..shape[2] as usize]);
     assert_eq!(accumulate(rows, cols, codes, accumulation), 0);
-    trace_by_stack(rows, cols, codes, accumulation, list, 0, true, grid, starts, work, results)
+    trace_by_stack(1, rows, cols, codes, accumulation, list, 0, true, grid, starts, work, results)
 }
 
 fn root() -> PathBuf {

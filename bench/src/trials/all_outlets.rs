@@ -6,7 +6,7 @@ use second_reading::entries::{self, Terrain};
 
 use super::figures::{apart, time, whole, Figure};
 use super::lent::{Lent, Sets, LIST};
-use super::{accepted, Runs};
+use super::{accepted, Runs, EDITION};
 use crate::measure::{timed, Clock, Contestant};
 use crate::plain;
 
@@ -42,6 +42,7 @@ pub fn tracing_all(
         let Lent { subaccumulation, starts, counts, work, .. } = &mut *sets.library.borrow_mut();
         let mut told = [0; 2];
         let number = jinxbanyan::trace_all(
+            EDITION,
             rows,
             cols,
             codes,
@@ -75,7 +76,7 @@ pub fn tracing_all(
         Contestant::new(runs.walking(steps), || {
             let Lent { subaccumulation, starts, counts, work, .. } = &mut *sets.rust.borrow_mut();
             let (grid, work) = (subaccumulation, work.all());
-            let answer = entries::trace_all(terrain, outlets, grid, starts, counts, work);
+            let answer = entries::trace_all(EDITION, terrain, outlets, grid, starts, counts, work);
             accepted(answer.number());
             sums[3].set(answer.sums());
         }),
@@ -119,6 +120,7 @@ pub fn tracing_each(terrain: Terrain, outlets: &[u32], sums: [u32; 2], sets: &Se
         let mut results = [0; 5];
         let taken = timed(|| {
             accepted(jinxbanyan::trace_by_stack(
+                EDITION,
                 rows,
                 cols,
                 codes,

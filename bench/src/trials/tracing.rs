@@ -7,7 +7,7 @@ use second_reading::entries::{self, Terrain};
 use super::figures::{apart, time, touching, whole, Figure};
 use super::grids::subaccumulating;
 use super::lent::{Lent, Sets};
-use super::{accepted, largest, steps_of, Runs, MANY_STEPS};
+use super::{accepted, largest, steps_of, Runs, EDITION, MANY_STEPS};
 use crate::grounds::Field;
 use crate::measure::{timed, watching, Clock, Contestant};
 use crate::plain::{self, Rule};
@@ -62,6 +62,7 @@ pub fn tracing(
         let taken = match engine {
             Engine::Stack => watching(page, || {
                 accepted(jinxbanyan::trace_by_stack(
+                    EDITION,
                     rows,
                     cols,
                     codes,
@@ -77,6 +78,7 @@ pub fn tracing(
             }),
             Engine::Recursion => timed(|| {
                 accepted(jinxbanyan::trace_by_recursion(
+                    EDITION,
                     rows,
                     cols,
                     codes,
@@ -102,6 +104,7 @@ pub fn tracing(
         let Lent { subaccumulation, starts, work, .. } = &mut *sets.rust.borrow_mut();
         let answer = match engine {
             Engine::Stack => entries::trace_by_stack(
+                EDITION,
                 terrain,
                 &outlets,
                 0,
@@ -110,9 +113,15 @@ pub fn tracing(
                 starts,
                 work.all(),
             ),
-            Engine::Recursion => {
-                entries::trace_by_recursion(terrain, &outlets, 0, dropping, subaccumulation, starts)
-            }
+            Engine::Recursion => entries::trace_by_recursion(
+                EDITION,
+                terrain,
+                &outlets,
+                0,
+                dropping,
+                subaccumulation,
+                starts,
+            ),
         };
         accepted(answer.number());
         found.set(answer.results());
@@ -126,6 +135,7 @@ pub fn tracing(
         Contestant::new(refused_runs, || {
             let Lent { subaccumulation, starts, .. } = &mut *sets.library.borrow_mut();
             let number = jinxbanyan::trace_by_stack(
+                EDITION,
                 rows,
                 cols,
                 codes,

@@ -3,7 +3,8 @@
 
 use std::ops::Range;
 
-use super::{checked_outlets, fill, Terrain};
+use super::{checked_edition, checked_outlets, fill, Terrain};
+use crate::editions::Edition;
 use crate::search::{Limit, Tree};
 use crate::subwatershed::Division;
 use crate::{check, Refusal};
@@ -29,8 +30,8 @@ impl TracingAll {
     }
 }
 
-/// Tracing all longest paths of every outlet by stack, with dropping, in the
-/// order of the list (10 to 12, 14 to 17, 20, 23, 21).
+/// Tracing all longest paths of every outlet by an edition, by stack with
+/// dropping, in the order of the list (25, 10 to 12, 14 to 17, 20, 23, 21).
 ///
 /// Past 17 the subaccumulation grid is filled, whatever comes. The working
 /// space must have three numbers for each cell of the largest subwatershed;
@@ -39,6 +40,7 @@ impl TracingAll {
 /// outlet's. Refused with 21, since the starts of all are too many for the
 /// list, neither is touched.
 pub fn trace_all(
+    edition: u32,
     terrain: Terrain,
     outlets: &[u32],
     subaccumulation: &mut [u32],
@@ -46,20 +48,22 @@ pub fn trace_all(
     counts: &mut [u32],
     work: &mut [u32],
 ) -> TracingAll {
-    match begin(terrain, outlets, subaccumulation, counts.len(), work) {
-        Ok(division) => end(&division, outlets, starts, counts),
+    match begin(edition, terrain, outlets, subaccumulation, counts.len(), work) {
+        Ok((edition, division)) => end(edition, &division, outlets, starts, counts),
         Err(refusal) => TracingAll { refusal: Some(refusal), visited: 0, dropped: 0 },
     }
 }
 
 /// All checks but 21, the filled grid, and the cleared working numbers.
 fn begin<'a>(
+    edition: u32,
     terrain: Terrain<'a>,
     outlets: &[u32],
     subaccumulation: &mut [u32],
     count_places: usize,
     work: &mut [u32],
-) -> Result<Division<'a>, Refusal> {
+) -> Result<(Edition, Division<'a>), Refusal> {
+    let edition = checked_edition(edition)?;
     let ground = terrain.checked(&[subaccumulation.len()])?;
     let division = checked_outlets(ground, outlets)?;
     fill(subaccumulation, &division.subaccumulation());
@@ -68,23 +72,30 @@ fn begin<'a>(
     check(20, work.len() >= needed)?;
     check(23, count_places >= outlets.len())?;
     work[..needed].fill(0);
-    Ok(division)
+    Ok((edition, division))
 }
 
 /// The searches, check 21, and the two lists.
-fn end(division: &Division, outlets: &[u32], starts: &mut [u32], counts: &mut [u32]) -> TracingAll {
+fn end(
+    edition: Edition,
+    division: &Division,
+    outlets: &[u32],
+    list: &mut [u32],
+    counts: &mut [u32],
+) -> TracingAll {
+    let starts = division.starts(edition);
     let (mut visited, mut dropped) = (0, 0);
     for &outlet in outlets {
-        let search = Tree::above(division, outlet as usize).search(Some(Limit::Step));
+        let search = Tree::above(division, outlet as usize).search(&starts, Some(Limit::Step));
         visited += search.visited;
         dropped += search.dropped;
     }
-    let longest = division.longest_of_each(outlets);
+    let longest = division.longest_of_each(&starts, outlets);
     let paths: Vec<u32> = longest.iter().map(|longest| longest.starts.len() as u32).collect();
     let together: Vec<u32> = longest.into_iter().flat_map(|longest| longest.starts).collect();
-    let refusal = check(21, together.len() <= starts.len()).err();
+    let refusal = check(21, together.len() <= list.len()).err();
     if refusal.is_none() {
-        fill(starts, &together);
+        fill(list, &together);
         fill(counts, &paths);
     }
     TracingAll { refusal, visited, dropped }

@@ -40,6 +40,7 @@ impl Case {
     /// answer, list and grid.
     pub fn traced(
         &self,
+        edition: u32,
         place: usize,
         dropping: bool,
         room: usize,
@@ -49,6 +50,7 @@ impl Case {
         let mut list = vec![UNTOUCHED; room];
         let mut work = vec![UNTOUCHED; 3 * cells];
         let by_stack = entries::trace_by_stack(
+            edition,
             self.terrain(),
             self.outlets,
             place,
@@ -63,6 +65,7 @@ impl Case {
         let mut grid_too = vec![UNTOUCHED; cells];
         let mut list_too = vec![UNTOUCHED; room];
         let by_recursion = entries::trace_by_recursion(
+            edition,
             self.terrain(),
             self.outlets,
             place,
@@ -74,17 +77,34 @@ impl Case {
         (by_stack, list, grid)
     }
 
-    /// The length and the starts, alike with and without dropping; without,
-    /// every cell is visited. Hands back visited and dropped with dropping.
+    /// The length and the starts, where every headwater is on the divide, so
+    /// that both editions give the same. Hands back visited and dropped with
+    /// dropping.
     pub fn has_longest(&self, place: usize, length: (u32, u32), starts: &[u32]) -> (u32, u32) {
+        let [first, second] =
+            [1, 2].map(|edition| self.has_longest_by(edition, place, length, starts));
+        assert_eq!(first, second);
+        first
+    }
+
+    /// The length and the starts by an edition, alike with and without
+    /// dropping; without, every cell is visited. Hands back visited and dropped
+    /// with dropping.
+    pub fn has_longest_by(
+        &self,
+        edition: u32,
+        place: usize,
+        length: (u32, u32),
+        starts: &[u32],
+    ) -> (u32, u32) {
         let kind =
             Kind::Found { length: Length::new(length.0, length.1), paths: starts.len() as u32 };
-        let (whole, list, grid) = self.traced(place, false, starts.len() + 1);
+        let (whole, list, grid) = self.traced(edition, place, false, starts.len() + 1);
         let above = grid[self.outlets[place] as usize];
         assert_eq!(whole, Tracing { kind, visited: above, dropped: 0 });
         assert_eq!(list[..starts.len()], *starts);
         assert_eq!(list[starts.len()], UNTOUCHED);
-        let (part, list_too, _) = self.traced(place, true, starts.len() + 1);
+        let (part, list_too, _) = self.traced(edition, place, true, starts.len() + 1);
         assert_eq!(part.kind, kind);
         assert_eq!(list, list_too);
         assert_eq!(part.visited + part.dropped, above);

@@ -20,96 +20,97 @@ use Rattle.ground.specs.Grid.{Grid, cellCount, ground}
 use Rattle.ground.specs.Accumulation.{agrees, subaccumulation}
 use Rattle.ground.proofs.AllOutlets.{outlets-ground}
 use Rattle.search.specs.Tracing.{pathCount, startCells, tracing}
-use Rattle.search.specs.Demand.{anyCell, Demand3}
+use Rattle.search.specs.Editions.{mayStart}
+use Rattle.search.specs.Demand.{Demand3}
 use Rattle.search.proofs.Demand3.{demand3}
 use Rattle.answers.specs.Checks.{Check, check10, check11, check12, check14, check15, check16, check17}
-use Rattle.answers.specs.Checks.{check20, check21, check23}
+use Rattle.answers.specs.Checks.{check20, check21, check23, check25}
 use Rattle.answers.specs.declared.Traced.{Traced}
 use Rattle.alloutlets.specs.declared.TracedAll.{TracedAll}
-use Rattle.answers.specs.Entries.{Catchment, outletChecks}
+use Rattle.answers.specs.Entries.{Catchment}
 use Rattle.alloutlets.specs.AllOutlets.{LentAll, tracingOf, allStarts, pathCounts, allVisited, allDropped}
 use Rattle.alloutlets.specs.AllOutlets.{traceAllNumber, tellsAll, leavesAll, TracesAll}
-use Rattle.alloutlets.specs.AllOutlets.{tracedAll, lastChecks, sumsTold}
+use Rattle.alloutlets.specs.AllOutlets.{tracedAll, allChecks, lastChecks, sumsTold}
 use Rattle.alloutlets.specs.Part.{startsBefore, partCount, startsPart}
 use Rattle.answers.specs.declared.Answer.{Answer}
 use Rattle.answers.specs.Answers.{numberOf, inNumbers}
 use Rattle.answers.specs.Tracings.{Lent}
 use Rattle.answers.specs.Seen.{SearchCounts, Way}
 use Rattle.alloutlets.specs.Seen.{alone, SearchedAlone, SumsSeen, PartSeen, AllSeen}
-use Rattle.answers.proofs.FirstFailed.{all-every, passed}
+use Rattle.answers.proofs.FirstFailed.{all-every, passesOf, passed-others}
 use Rattle.answers.proofs.Accepted.{seen-way}
 
-module _ (g : Grid) (outlets : List ℕ) where
+module _ (edition : ℕ) (g : Grid) (outlets : List ℕ) where
   -- as many starts as paths
-  pub long-starts : (o : ℕ) → length (startCells (tracingOf g outlets o)) ≡ pathCount (tracingOf g outlets o)
-  long-starts o = length-map (tracingOf g outlets o .starts) (λ x. x .cell)
+  pub long-starts : (o : ℕ) → length (startCells (tracingOf edition g outlets o)) ≡ pathCount (tracingOf edition g outlets o)
+  long-starts o = length-map (tracingOf edition g outlets o .starts) (λ x. x .cell)
 
   abbrev pub startsTo : ℕ → List ℕ
-  startsTo o = startCells (tracingOf g outlets o)
+  startsTo o = startCells (tracingOf edition g outlets o)
 
-  counts-are : lengths startsTo outlets ≡ pathCounts g outlets
+  counts-are : lengths startsTo outlets ≡ pathCounts edition g outlets
   counts-are = λ i. map (λ o. long-starts o i) outlets
 
-  pub all-long : length (allStarts g outlets) ≡ sumOf (pathCounts g outlets)
+  pub all-long : length (allStarts edition g outlets) ≡ sumOf (pathCounts edition g outlets)
   all-long = joined-length startsTo outlets ∙ ap sumOf counts-are
 
   -- THE PART at a place of the list is what the tracing lists of that outlet
-  module _ (starts counts : List ℕ) (rs : sumOf (pathCounts g outlets) ≤ length starts)
+  module _ (starts counts : List ℕ) (rs : sumOf (pathCounts edition g outlets) ≤ length starts)
       (rc : length outlets ≤ length counts) (i : ℕ) (h : i < length outlets) where
     abbrev outlet : ℕ
     outlet = getD outlets i 0
 
     abbrev newCounts : List ℕ
-    newCounts = overlaid (pathCounts g outlets) counts
+    newCounts = overlaid (pathCounts edition g outlets) counts
 
     abbrev newStarts : List ℕ
-    newStarts = overlaid (allStarts g outlets) starts
+    newStarts = overlaid (allStarts edition g outlets) starts
 
-    many : length (pathCounts g outlets) ≡ length outlets
-    many = length-map outlets (λ o. pathCount (tracingOf g outlets o))
+    many : length (pathCounts edition g outlets) ≡ length outlets
+    many = length-map outlets (λ o. pathCount (tracingOf edition g outlets o))
 
-    inside : i < length (pathCounts g outlets)
+    inside : i < length (pathCounts edition g outlets)
     inside = omega (arith, h, many)
 
-    pub own-count : getD newCounts i 0 ≡ pathCount (tracingOf g outlets outlet)
-    own-count = overlaid-at (pathCounts g outlets) counts (omega (arith, rc, many)) i inside
-        ∙ getD-map (λ o. pathCount (tracingOf g outlets o)) outlets i 0 h
+    pub own-count : getD newCounts i 0 ≡ pathCount (tracingOf edition g outlets outlet)
+    own-count = overlaid-at (pathCounts edition g outlets) counts (omega (arith, rc, many)) i inside
+        ∙ getD-map (λ o. pathCount (tracingOf edition g outlets o)) outlets i 0 h
 
-    before-same : startsBefore newCounts i ≡ sumOf (take i (pathCounts g outlets))
+    before-same : startsBefore newCounts i ≡ sumOf (take i (pathCounts edition g outlets))
     before-same = ap (λ (l : List ℕ). sumOf (take i l))
-        (overlaid-front (pathCounts g outlets) counts (omega (arith, rc, many)))
-        ∙ ap sumOf (take-append-le i (pathCounts g outlets) _ (omega (arith, inside)))
+        (overlaid-front (pathCounts edition g outlets) counts (omega (arith, rc, many)))
+        ∙ ap sumOf (take-append-le i (pathCounts edition g outlets) _ (omega (arith, inside)))
 
     fits : startsBefore newCounts i + getD newCounts i 0 ≤ length newStarts
     fits = omega (
       arith,
       before-same,
       own-count,
-      getD-map (λ o. pathCount (tracingOf g outlets o)) outlets i 0 h,
-      sum-next (pathCounts g outlets) i inside,
-      sum-more (pathCounts g outlets) (suc i) (length (pathCounts g outlets)) inside,
-      ap sumOf (take-all (length (pathCounts g outlets)) (pathCounts g outlets) (omega arith)),
+      getD-map (λ o. pathCount (tracingOf edition g outlets o)) outlets i 0 h,
+      sum-next (pathCounts edition g outlets) i inside,
+      sum-more (pathCounts edition g outlets) (suc i) (length (pathCounts edition g outlets)) inside,
+      ap sumOf (take-all (length (pathCounts edition g outlets)) (pathCounts edition g outlets) (omega arith)),
       rs,
-      overlaid-length (allStarts g outlets) starts,
+      overlaid-length (allStarts edition g outlets) starts,
     )
 
-    own-shown : partCount newCounts i (length newStarts) ≡ pathCount (tracingOf g outlets outlet)
+    own-shown : partCount newCounts i (length newStarts) ≡ pathCount (tracingOf edition g outlets outlet)
     unfolding partCount
     own-shown = rw (
-      lt-ltb i (length newCounts) (omega (arith, h, rc, overlaid-length (pathCounts g outlets) counts)),
+      lt-ltb i (length newCounts) (omega (arith, h, rc, overlaid-length (pathCounts edition g outlets) counts)),
       le-leb (startsBefore newCounts i + getD newCounts i 0) (length newStarts) fits,
     ) own-count
 
-    pub part-listed : startsPart newStarts newCounts i ≡ startCells (tracingOf g outlets outlet)
+    pub part-listed : startsPart newStarts newCounts i ≡ startCells (tracingOf edition g outlets outlet)
     part-listed =
         rw (
           own-shown,
           before-same,
-          overlaid-front (allStarts g outlets) starts (omega (arith, rs, all-long)),
+          overlaid-front (allStarts edition g outlets) starts (omega (arith, rs, all-long)),
           sym counts-are,
           sym (long-starts outlet),
         )
-        (joined-part startsTo outlets (drop (length (allStarts g outlets)) starts) i h)
+        (joined-part startsTo outlets (drop (length (allStarts edition g outlets)) starts) i h)
 
 -- ---- what is seen of a call
 
@@ -118,21 +119,16 @@ either-number true n v d = refl
 either-number false n v d = refl
 
 -- the answer's number is the number of the first check that fails
-told-number : (g : Grid) (outlets : List ℕ) (n : ℕ) → tellsAll g outlets n .number ≡ n
+told-number : (edition : ℕ) (g : Grid) (outlets : List ℕ) (n : ℕ) → tellsAll edition g outlets n .number ≡ n
 unfolding tellsAll
-told-number g outlets n = either-number (sumsTold n) n (allVisited g outlets) (allDropped g outlets)
+told-number edition g outlets n = either-number (sumsTold n) n (allVisited edition g outlets) (allDropped edition g outlets)
 
--- none of the checks before 20 gives 0 or 21
-apart-from : (n : ℕ) → (n ≡ 0) ⊎ (n ≡ 21) → (n < 10) ⊎ (17 < n)
-apart-from n (inl e) = inl (omega arith)
-apart-from n (inr e) = inr (omega arith)
-
-module _ (c : Catchment) (old : LentAll) where
+module _ (edition : ℕ) (c : Catchment) (old : LentAll) where
   abbrev land : Grid
   land = c .grid
 
   abbrev before : List Check
-  before = outletChecks c (length (c .accumulation) ∷ length (old .subaccumulation) ∷ [])
+  before = allChecks edition c (old .subaccumulation)
 
   -- past 17, every outlet is traced as demand 3 says
   pub record Sound : Type 0 where
@@ -140,10 +136,16 @@ module _ (c : Catchment) (old : LentAll) where
     pub on-ground : Every (λ o. ground land o ≡ true) (c .outlets)
     pub are-different : different (c .outlets) ≡ true
 
-  sound : (n : ℕ) → (n ≡ 0) ⊎ (n ≡ 21) → traceAllNumber c old ≡ n → Sound
-  unfolding traceAllNumber check10 check11 check12 check14 check15 check16 check17
+  -- none of the checks before 20 gives 0 or 21
+  all-passed : (n : ℕ) → (n ≡ 0) ⊎ (n ≡ 21) → traceAllNumber edition c old ≡ n → (k : ℕ) → passesOf k before ≡ true
+  unfolding traceAllNumber check10 check11 check12 check14 check15 check16 check17 check25
+  all-passed n (inl z) e = passed-others 0 before (lastChecks edition c old) refl (e ∙ z)
+  all-passed n (inr z) e = passed-others 21 before (lastChecks edition c old) refl (e ∙ z)
+
+  sound : (n : ℕ) → (n ≡ 0) ⊎ (n ≡ 21) → traceAllNumber edition c old ≡ n → Sound
+  unfolding check10 check11 check12 check14 check15 check16 check17 check25
   sound n i e =
-      let p = passed 17 n before (lastChecks c old) refl (apart-from n i) e in
+      let p = all-passed n i e in
       record {
         agreement = p 14;
         on-ground = every-map (λ o. (ltb o (cellCount land) && ground land o) ≡ true) (λ o. ground land o ≡ true)
@@ -154,20 +156,21 @@ module _ (c : Catchment) (old : LentAll) where
 
   module _ (s : Sound) where
     promise : (i : ℕ) → i < length (c .outlets)
-        → Demand3 land (c .outlets) anyCell (getD (c .outlets) i 0) (tracingOf land (c .outlets) (getD (c .outlets) i 0))
-        (tracing false land (c .outlets) (getD (c .outlets) i 0))
+        → Demand3 land (c .outlets) (mayStart edition land (c .outlets) (getD (c .outlets) i 0)) (getD (c .outlets) i 0)
+        (tracingOf edition land (c .outlets) (getD (c .outlets) i 0))
+        (tracing edition false land (c .outlets) (getD (c .outlets) i 0))
     promise i h = demand3 land (c .accumulation) (s .agreement) (c .outlets) (getD (c .outlets) i 0)
-        (member-at (c .outlets) i h) (every-at (λ o. ground land o ≡ true) (c .outlets) (s .on-ground) i h) true
+        (member-at (c .outlets) i h) (every-at (λ o. ground land o ≡ true) (c .outlets) (s .on-ground) i h) edition true
 
     -- all that is visited or dropped
-    together : allVisited land (c .outlets) + allDropped land (c .outlets)
+    together : allVisited edition land (c .outlets) + allDropped edition land (c .outlets)
         ≤ howMany (ground land) (cellCount land)
     together = omega (
       arith,
-      sum-parts (λ o. tracingOf land (c .outlets) o .visited) (λ o. tracingOf land (c .outlets) o .dropped) (c .outlets),
-      sum-alike (λ o. tracingOf land (c .outlets) o .visited + tracingOf land (c .outlets) o .dropped)
+      sum-parts (λ o. tracingOf edition land (c .outlets) o .visited) (λ o. tracingOf edition land (c .outlets) o .dropped) (c .outlets),
+      sum-alike (λ o. tracingOf edition land (c .outlets) o .visited + tracingOf edition land (c .outlets) o .dropped)
           (subaccumulation land (c .outlets)) (c .outlets)
-          (every-placed (λ o. tracingOf land (c .outlets) o .visited + tracingOf land (c .outlets) o .dropped
+          (every-placed (λ o. tracingOf edition land (c .outlets) o .visited + tracingOf edition land (c .outlets) o .dropped
           ≡ subaccumulation land (c .outlets) o) (c .outlets)
           (λ i h. promise i h .counts ∙ promise i h .cells)),
       outlets-ground land (c .outlets) (c .accumulation) (s .agreement)
@@ -175,34 +178,34 @@ module _ (c : Catchment) (old : LentAll) where
     )
 
   -- what a call for one outlet alone counted
-  alone-counts : (i : ℕ) {r : Traced} → SearchedAlone c i r → SearchCounts (alone c i) r
+  alone-counts : (i : ℕ) {r : Traced} → SearchedAlone edition c i r → SearchCounts (alone edition c i) r
   alone-counts i a = elim (a .searched) [
-    | inl e ↦ seen-way (alone c i) (a .way) .on-0 e .counts
-    | inr e ↦ seen-way (alone c i) (a .way) .on-21 e .counts
+    | inl e ↦ seen-way (alone edition c i) (a .way) .on-0 e .counts
+    | inr e ↦ seen-way (alone edition c i) (a .way) .on-21 e .counts
   ]
 
-  module _ {r : TracedAll} {new : LentAll} (t : TracesAll c old r new) where
-    number-is : {n : ℕ} → r .number ≡ n → traceAllNumber c old ≡ n
-    number-is e = sym (ap (λ (a : TracedAll). a .number) (t .answers) ∙ told-number land (c .outlets) _) ∙ e
+  module _ {r : TracedAll} {new : LentAll} (t : TracesAll edition c old r new) where
+    number-is : {n : ℕ} → r .number ≡ n → traceAllNumber edition c old ≡ n
+    number-is e = sym (ap (λ (a : TracedAll). a .number) (t .answers) ∙ told-number edition land (c .outlets) _) ∙ e
 
-    sums-told : (n : ℕ) → (n ≡ 0) ⊎ (n ≡ 21) → traceAllNumber c old ≡ n
-        → (r .visited ≡ allVisited land (c .outlets)) × (r .dropped ≡ allDropped land (c .outlets))
+    sums-told : (n : ℕ) → (n ≡ 0) ⊎ (n ≡ 21) → traceAllNumber edition c old ≡ n
+        → (r .visited ≡ allVisited edition land (c .outlets)) × (r .dropped ≡ allDropped edition land (c .outlets))
     unfolding tellsAll
     sums-told n (inl z) e = (rw (t .answers, e, z), rw (t .answers, e, z))
     sums-told n (inr z) e = (rw (t .answers, e, z), rw (t .answers, e, z))
 
-    sums-seen : (r .number ≡ 0) ⊎ (r .number ≡ 21) → SumsSeen c r
+    sums-seen : (r .number ≡ 0) ⊎ (r .number ≡ 21) → SumsSeen edition c r
     sums-seen i =
         let n = r .number in
         let s = sound n i (number-is refl) in
         let v = sums-told n i (number-is refl) in
         record {
           of-each = λ one a. (
-            v .0 ∙ sum-alike (λ o. tracingOf land (c .outlets) o .visited) (λ o. one o .visited) (c .outlets)
-                (every-placed (λ o. tracingOf land (c .outlets) o .visited ≡ one o .visited) (c .outlets)
+            v .0 ∙ sum-alike (λ o. tracingOf edition land (c .outlets) o .visited) (λ o. one o .visited) (c .outlets)
+                (every-placed (λ o. tracingOf edition land (c .outlets) o .visited ≡ one o .visited) (c .outlets)
                 (λ j h. sym (alone-counts j (a j h) .visited))),
-            v .1 ∙ sum-alike (λ o. tracingOf land (c .outlets) o .dropped) (λ o. one o .dropped) (c .outlets)
-                (every-placed (λ o. tracingOf land (c .outlets) o .dropped ≡ one o .dropped) (c .outlets)
+            v .1 ∙ sum-alike (λ o. tracingOf edition land (c .outlets) o .dropped) (λ o. one o .dropped) (c .outlets)
+                (every-placed (λ o. tracingOf edition land (c .outlets) o .dropped ≡ one o .dropped) (c .outlets)
                 (λ j h. sym (alone-counts j (a j h) .dropped))),
           );
           on-ground = omega (arith, v .0, v .1, together s);
@@ -210,47 +213,48 @@ module _ (c : Catchment) (old : LentAll) where
 
     -- accepted, there was room for all
     module _ (z : r .number ≡ 0) where
-      room : (sumOf (pathCounts land (c .outlets)) ≤ length (old .starts))
+      room : (sumOf (pathCounts edition land (c .outlets)) ≤ length (old .starts))
           × (length (c .outlets) ≤ length (old .counts))
       unfolding traceAllNumber check10 check11 check12 check14 check15 check16 check17 check20 check21 check23
+          check25
       room =
-          let p = passed 23 0 (before ++ lastChecks c old) [] refl (inl (omega arith)) (number-is z) in
-          let q = leb-true (length (pathCounts land (c .outlets))) (length (old .counts)) (p 23) in (
-            leb-true (sumOf (pathCounts land (c .outlets))) (length (old .starts)) (p 21),
-            omega (arith, q, length-map (c .outlets) (λ o. pathCount (tracingOf land (c .outlets) o))),
+          let p = passed-others 0 (before ++ lastChecks edition c old) [] refl (number-is z) in
+          let q = leb-true (length (pathCounts edition land (c .outlets))) (length (old .counts)) (p 23) in (
+            leb-true (sumOf (pathCounts edition land (c .outlets))) (length (old .starts)) (p 21),
+            omega (arith, q, length-map (c .outlets) (λ o. pathCount (tracingOf edition land (c .outlets) o))),
           )
 
-      left-lists : (new .starts ≡ overlaid (allStarts land (c .outlets)) (old .starts))
-          × (new .counts ≡ overlaid (pathCounts land (c .outlets)) (old .counts))
+      left-lists : (new .starts ≡ overlaid (allStarts edition land (c .outlets)) (old .starts))
+          × (new .counts ≡ overlaid (pathCounts edition land (c .outlets)) (old .counts))
       unfolding leavesAll
       left-lists = (rw (t .leaves, number-is z), rw (t .leaves, number-is z))
 
       module _ (i : ℕ) (h : i < length (c .outlets)) where
         abbrev found : List ℕ
-        found = startsTo land (c .outlets) (getD (c .outlets) i 0)
+        found = startsTo edition land (c .outlets) (getD (c .outlets) i 0)
 
         part-is : startsPart (new .starts) (new .counts) i ≡ found
         part-is = rw (left-lists .0, left-lists .1)
-            (part-listed land (c .outlets) (old .starts) (old .counts) (room .0) (room .1) i h)
+            (part-listed edition land (c .outlets) (old .starts) (old .counts) (room .0) (room .1) i h)
 
         count-is : getD (new .counts) i 0 ≡ length found
         count-is = rw (left-lists .1)
-            (own-count land (c .outlets) (old .starts) (old .counts) (room .0) (room .1) i h
-            ∙ sym (long-starts land (c .outlets) (getD (c .outlets) i 0)))
+            (own-count edition land (c .outlets) (old .starts) (old .counts) (room .0) (room .1) i h
+            ∙ sym (long-starts edition land (c .outlets) (getD (c .outlets) i 0)))
 
         -- a call for the outlet alone lists the same, since no other list is so
-        listed-alone : {a : Traced} {left : Lent} → Way (alone c i) a left → numberOf (a .answer) ≡ 0
+        listed-alone : {a : Traced} {left : Lent} → Way (alone edition c i) a left → numberOf (a .answer) ≡ 0
             → (length found ≡ inNumbers (a .answer) .paths)
             × (found ≡ take (inNumbers (a .answer) .paths) (left .starts))
         listed-alone {a} {left} w e =
             let p = promise (sound 0 (inl refl) (number-is z)) i h in
-            let f = seen-way (alone c i) w .on-0 e in
+            let f = seen-way (alone edition c i) w .on-0 e in
             let q = ap (λ (b : Answer). inNumbers b .paths) (f .found) in
             let l = p .unique (take (f .paths) (left .starts)) (f .listed .exact) (f .listed .ordered) in
             let m = length-take-le (f .paths) (left .starts) (f .has-place) in
             rw q (omega (arith, ap length l, m), sym l)
 
-        pub part-seen : PartSeen c new i
+        pub part-seen : PartSeen edition c new i
         part-seen =
             let p = promise (sound 0 (inl refl) (number-is z)) i h in
             record {
@@ -260,5 +264,5 @@ module _ (c : Catchment) (old : LentAll) where
             }
 
   -- WHAT A CALLER SEES
-  pub all-seen : {r : TracedAll} {new : LentAll} → TracesAll c old r new → AllSeen c r new
+  pub all-seen : {r : TracedAll} {new : LentAll} → TracesAll edition c old r new → AllSeen edition c r new
   all-seen t = record { sums = sums-seen t; parts = λ z i h. part-seen t z i h }

@@ -10,10 +10,12 @@ use Rattle.lists.specs.Slices.{overlaid, zeros}
 use Rattle.ground.specs.Tables.{isCode, dirOf}
 use Rattle.ground.specs.Grid.{codeAt, neighbour, next, inflowRecord, inflows}
 use Rattle.ground.specs.Accumulation.{balance, agrees, subaccumulation}
+use Rattle.ground.specs.Subwatershed.{belongs, inSubwatershed}
+use Rattle.ground.specs.Divide.{onDivide}
 use Rattle.ground.specs.Forest.{forest}
 use Rattle.search.specs.Tracing.{tracingBy}
 use Rattle.answers.specs.Checks.{firstFailed, check10, check11, check12, check14, check15, check16, check17}
-use Rattle.answers.specs.Checks.{check20, check21, check23}
+use Rattle.answers.specs.Checks.{check20, check21, check23, check25}
 use Rattle.answers.specs.Entries.{Catchment, catchment}
 use Rattle.alloutlets.specs.declared.TracedAll.{TracedAll}
 use Rattle.alloutlets.specs.AllOutlets.{LentAll, lentAll, tracedAll, traceAllNumber, tellsAll, leavesAll}
@@ -33,8 +35,13 @@ fan outlets = catchment 2 5 (2 ∷ 4 ∷ 8 ∷ 4 ∷ 0 ∷ 128 ∷ 1 ∷ 1 ∷ 1
 abbrev pub m3 : Catchment
 m3 = catchment 1 4 (1 ∷ 4 ∷ 16 ∷ 16 ∷ []) (1 ∷ 4 ∷ 2 ∷ 1 ∷ []) (1 ∷ [])
 
+-- a snail into the corner 2, whose centre 4 is no divide cell
+abbrev pub snail : List ℕ → Catchment
+snail outlets = catchment 3 3 (1 ∷ 1 ∷ 64 ∷ 64 ∷ 1 ∷ 4 ∷ 64 ∷ 16 ∷ 16 ∷ []) (7 ∷ 8 ∷ 9 ∷ 6 ∷ 1 ∷ 2 ∷ 5 ∷ 4 ∷ 3 ∷ []) outlets
+
 -- what is called with so many places of starts, counts and working space, and what it answers and leaves
 pub record Row : Type 0 where
+  pub edition : ℕ
   pub called : Catchment
   pub lent : LentAll
   pub answers : TracedAll
@@ -42,16 +49,21 @@ pub record Row : Type 0 where
 
 abbrev pub worked : Row → Row
 worked r =
-    let n = traceAllNumber (r .called) (r .lent) in
+    let n = traceAllNumber (r .edition) (r .called) (r .lent) in
     record {
+      edition = r .edition;
       called = r .called;
       lent = r .lent;
-      answers = tellsAll (r .called .grid) (r .called .outlets) n;
-      leaves = leavesAll (r .called .grid) (r .called .outlets) n (r .lent);
+      answers = tellsAll (r .edition) (r .called .grid) (r .called .outlets) n;
+      leaves = leavesAll (r .edition) (r .called .grid) (r .called .outlets) n (r .lent);
     }
 
+abbrev pub rowBy : ℕ → Catchment → LentAll → TracedAll → LentAll → Row
+rowBy edition called lent answers leaves =
+    record { edition = edition; called = called; lent = lent; answers = answers; leaves = leaves }
+
 abbrev pub row : Catchment → LentAll → TracedAll → LentAll → Row
-row called lent answers leaves = record { called = called; lent = lent; answers = answers; leaves = leaves }
+row = rowBy 1
 
 -- the fan's outlets are 6, of three cells and two paths, and 1, of two cells and one path; the cell 9 has four cells
 abbrev pub fanLent : ℕ → ℕ → ℕ → LentAll
@@ -81,12 +93,19 @@ rows =
     ∷ row (fan (6 ∷ 6 ∷ [])) (fanLent 2 1 8) (tracedAll 17 0 0) (fanLent 2 1 8)
     ∷ row m3 (lentAll (nines 4) (nines 1) (nines 1) (nines 12)) (tracedAll 0 3 1)
     (lentAll (1 ∷ 4 ∷ 2 ∷ 1 ∷ []) (3 ∷ []) (1 ∷ []) (zeros 12))
+    -- by edition 2: the snail starts at its last divide cell, and an outlet inside it has its own cell alone
+    ∷ rowBy 2 (snail (2 ∷ [])) (lentAll (nines 10) (nines 2) (nines 1) (nines 27)) (tracedAll 0 9 0)
+    (lentAll (7 ∷ 8 ∷ 9 ∷ 6 ∷ 1 ∷ 2 ∷ 5 ∷ 4 ∷ 3 ∷ 9 ∷ []) (5 ∷ 9 ∷ []) (1 ∷ []) (zeros 27))
+    ∷ rowBy 2 (snail (4 ∷ 2 ∷ [])) (lentAll (nines 9) (nines 2) (nines 2) (nines 24)) (tracedAll 0 9 0)
+    (lentAll (6 ∷ 7 ∷ 8 ∷ 5 ∷ 1 ∷ 1 ∷ 4 ∷ 3 ∷ 2 ∷ []) (4 ∷ 5 ∷ []) (1 ∷ 1 ∷ []) (zeros 24))
+    -- 25, before 10 and all others
+    ∷ rowBy 3 (catchment 0 4 [] [] []) (fanLent 2 1 8) (tracedAll 25 0 0) (fanLent 2 1 8)
     ∷ []
 
 pub all-outlets : map worked rows ≡ rows
 unfolding compared ruled signOf isShorter sumOf greatestOf joined overlaid isCode dirOf codeAt neighbour next inflowRecord
     inflows balance agrees subaccumulation forest tracingBy firstFailed check10 check11 check12 check14 check15 check16
-    check17 check20 check21 check23 traceAllNumber tellsAll leavesAll
+    check17 check20 check21 check23 check25 belongs inSubwatershed onDivide traceAllNumber tellsAll leavesAll
 all-outlets = refl
 
 -- of five starts: two of the first outlet, none of the second, three of the third; the fourth's run past the list, and so

@@ -17,10 +17,10 @@ use Rattle.alloutlets.specs.AllOutlets.{LentAll}
 use Rattle.alloutlets.specs.Part.{startsPart}
 use Rattle.answers.specs.Seen.{LongestStarts, Way}
 
-module _ (c : Catchment) where
-  -- a call for the outlet at a place alone, with dropping
+module _ (edition : ℕ) (c : Catchment) where
+  -- a call for the outlet at a place alone, by the same edition, with dropping
   abbrev pub alone : ℕ → Call
-  alone place = record { catchment = c; place = place; dropping = true }
+  alone place = record { edition = edition; catchment = c; place = place; dropping = true }
 
   -- by either engine, in whatever it was lent, such a call came to the search and answered this
   pub record SearchedAlone (place : ℕ) (r : Traced) : Type 0 where
@@ -45,7 +45,7 @@ module _ (c : Catchment) where
     -- it is exactly the longest starts of that outlet, each once, in order, as many as its count; and it is the list that
     -- a call for the outlet alone leaves, where that call is accepted
     pub record PartSeen : Type 0 where
-      pub longest : LongestStarts c (getD (c .outlets) i 0) partOf
+      pub longest : LongestStarts edition c (getD (c .outlets) i 0) partOf
       pub counted : getD (new .counts) i 0 ≡ length partOf
       pub as-alone : {r : Traced} {left : Lent} → Way (alone i) r left → numberOf (r .answer) ≡ 0
           → (getD (new .counts) i 0 ≡ inNumbers (r .answer) .paths)

@@ -16,12 +16,13 @@ use Rattle.lists.proofs.Members.{member-at}
 use Rattle.lists.proofs.Overlaid.{overlaid-length, overlaid-taken, overlaid-short}
 use Rattle.ground.specs.Grid.{Grid, cellCount, ground}
 use Rattle.search.specs.Tracing.{Tracing, longestLength, pathCount, startCells, tracing}
-use Rattle.search.specs.Demand.{anyCell, Demand3}
+use Rattle.search.specs.Editions.{mayStart}
+use Rattle.search.specs.Demand.{Demand3}
 use Rattle.search.proofs.Demand3.{demand3}
 use Rattle.search.proofs.Tighter.{no-more-visited}
 use Rattle.answers.specs.Checks.{Check, firstFailed, allPass}
 use Rattle.answers.specs.Checks.{check10, check11, check12, check14, check15, check16, check17, check18}
-use Rattle.answers.specs.Checks.{check19, check20, check21}
+use Rattle.answers.specs.Checks.{check19, check20, check21, check25}
 use Rattle.answers.specs.declared.Answer.the-variants.{Found}
 use Rattle.answers.specs.declared.Traced.{Traced}
 use Rattle.answers.specs.Answers.{numberOf, inNumbers, tracedWith, tracedBy}
@@ -30,7 +31,7 @@ use Rattle.answers.specs.Tracings.{Call, Lent, chosen, chosenCells, chos
 use Rattle.answers.specs.Tracings.{Traces, recursionNumber, stackNumber, TracesByRecursion, TracesByStack}
 use Rattle.answers.specs.Seen.{LongestStarts, SearchCounts, FoundAll, FoundTooMany, Seen}
 use Rattle.answers.specs.Seen.{Way, by-recursion, by-stack, Alike}
-use Rattle.answers.proofs.FirstFailed.{all-at, passesOf, within, apart, passed, last-given}
+use Rattle.answers.proofs.FirstFailed.{all-at, passesOf, isOther, others, passed-others, last-given}
 
 -- THE ANSWER'S NUMBER is the number of the first check that fails
 pub number-told : (n : ℕ) (t : Tracing) → numberOf (tracedBy n t .answer) ≡ n
@@ -41,11 +42,6 @@ number-told n t = go (eqb n 0) refl (eqb n 21) refl
     go true p d q = rw p (sym (eqb-true n 0 p))
     go false p true q = rw (p, q) (sym (eqb-true n 21 q))
     go false p false q = rw (p, q)
-
--- none of the checks before 19 gives 0 or 21
-apart-from : (n : ℕ) → (n ≡ 0) ⊎ (n ≡ 21) → (n < 10) ⊎ (18 < n)
-apart-from n (inl e) = inl (omega arith)
-apart-from n (inr e) = inr (omega arith)
 
 passes : (b : Bool) → _≡_ {A = ℕ} (cond b 0 21) 0 → b ≡ true
 passes true e = refl
@@ -64,11 +60,11 @@ module _ (q : Call) where
 
   -- what the search finds without dropping
   abbrev plain : Tracing
-  plain = tracing false grid outlets (chosen q)
+  plain = tracing (q .edition) false grid outlets (chosen q)
 
   -- the promise of what is told
   abbrev pub Promise : Type 0
-  Promise = Demand3 grid outlets anyCell (chosen q) (chosenTracing q) plain
+  Promise = Demand3 grid outlets (mayStart (q .edition) grid outlets (chosen q)) (chosen q) (chosenTracing q) plain
 
   -- what the number tells of the search, and of the places of the list
   pub record Reached (room number : ℕ) : Type 0 where
@@ -77,13 +73,13 @@ module _ (q : Call) where
     pub too-few : number ≡ 21 → room < pathCount (chosenTracing q)
 
   passed-promise : (old : List ℕ) → ((k : ℕ) → passesOf k (callChecks q old) ≡ true) → Promise
-  unfolding check10 check11 check12 check14 check15 check16 check17 check18
+  unfolding check10 check11 check12 check14 check15 check16 check17 check18 check25
   passed-promise old p =
       let inside = ltb-true (q .place) (length outlets) (p 18) in
       let placed = and-both (ltb (chosen q) (cellCount grid)) (ground grid (chosen q))
       (all-at (λ o. ltb o (cellCount grid) && ground grid o) outlets (p 16) (q .place) inside) in
       demand3 grid (q .catchment .accumulation) (p 14) outlets (chosen q)
-      (member-at outlets (q .place) inside) (placed .1) (q .dropping)
+      (member-at outlets (q .place) inside) (placed .1) (q .edition) (q .dropping)
 
   -- whatever the engine's own check
   module _ (old : Lent) (own : Check) where
@@ -96,28 +92,35 @@ module _ (q : Call) where
     abbrev room : ℕ
     room = length (old .starts)
 
-    reached : allPass (within 20) before ≡ true → (number : ℕ)
+    -- none of the checks before 21 has that number or 0
+    reached : allPass (isOther 0) before ≡ true → allPass (isOther 21) before ≡ true → (number : ℕ)
         → number ≡ firstFailed (before ++ (check21 (pathCount (chosenTracing q)) (old .starts) ∷ [])) → Reached room number
-    unfolding check10 check11 check12 check14 check15 check16 check17 check18 check21
-    reached h number is-number = record {
-      promise = λ i. passed-promise (old .subaccumulation) (passed 18 number (callChecks q (old .subaccumulation)) _
-          refl (apart-from number i) (sym is-number));
+    unfolding check10 check11 check12 check14 check15 check16 check17 check18 check21 check25
+    reached h₀ h₂₁ number is-number = record {
+      promise = λ i. passed-promise (old .subaccumulation) (passed-by i);
       enough = λ e. leb-true paths room (passes (leb paths room)
-          (last-given 0 21 (leb paths room) before (apart 20 0 (inl (omega arith)) before h) (sym is-number ∙ e)));
+          (last-given 0 21 (leb paths room) before (others 0 before h₀) (sym is-number ∙ e)));
       too-few = λ e. omega (
         arith,
         leb-false paths room (fails (leb paths room)
-            (last-given 21 21 (leb paths room) before (apart 20 21 (inr (omega arith)) before h) (sym is-number ∙ e))),
+            (last-given 21 21 (leb paths room) before (others 21 before h₂₁) (sym is-number ∙ e))),
       );
     }
+      where
+        after : List Check
+        after = own ∷ check21 (pathCount (chosenTracing q)) (old .starts) ∷ []
+
+        passed-by : (number ≡ 0) ⊎ (number ≡ 21) → (k : ℕ) → passesOf k (callChecks q (old .subaccumulation)) ≡ true
+        passed-by (inl e) = passed-others 0 (callChecks q (old .subaccumulation)) after refl (sym is-number ∙ e)
+        passed-by (inr e) = passed-others 21 (callChecks q (old .subaccumulation)) after refl (sym is-number ∙ e)
 
   recursion-reached : (old : Lent) → Reached (length (old .starts)) (recursionNumber q old)
-  unfolding recursionNumber check10 check11 check12 check14 check15 check16 check17 check18 check19
-  recursion-reached old = reached old (check19 (chosenCells q)) refl (recursionNumber q old) refl
+  unfolding recursionNumber check10 check11 check12 check14 check15 check16 check17 check18 check19 check25
+  recursion-reached old = reached old (check19 (chosenCells q)) refl refl (recursionNumber q old) refl
 
   pub stack-reached : (old : Lent) (work : List ℕ) → Reached (length (old .starts)) (stackNumber q old work)
-  unfolding stackNumber check10 check11 check12 check14 check15 check16 check17 check18 check20
-  stack-reached old work = reached old (check20 (chosenCells q) work) refl (stackNumber q old work) refl
+  unfolding stackNumber check10 check11 check12 check14 check15 check16 check17 check18 check20 check25
+  stack-reached old work = reached old (check20 (chosenCells q) work) refl refl (stackNumber q old work) refl
 
   -- ---- what a caller sees
 
@@ -132,7 +135,7 @@ module _ (q : Call) where
     filled (inl e) = t .lists ∙ rw e
     filled (inr e) = t .lists ∙ rw e
 
-    longest : Promise → LongestStarts (q .catchment) (chosen q) found
+    longest : Promise → LongestStarts (q .edition) (q .catchment) (chosen q) found
     longest p = record { exact = p .exact; once = p .once; ordered = p .ordered }
 
     counted : Promise → (number ≡ 0) ⊎ (number ≡ 21) → SearchCounts q r
@@ -141,13 +144,13 @@ module _ (q : Call) where
       visited = rw (t .answers, e);
       dropped = rw (t .answers, e);
       all-cells = rw (t .answers, e) (p .counts);
-      no-more-visited = rw (t .answers, e) (no-more-visited (q .dropping) grid outlets (chosen q));
+      no-more-visited = rw (t .answers, e) (no-more-visited (q .edition) (q .dropping) grid outlets (chosen q));
     }
     counted p (inr e) = record {
       visited = rw (t .answers, e);
       dropped = rw (t .answers, e);
       all-cells = rw (t .answers, e) (p .counts);
-      no-more-visited = rw (t .answers, e) (no-more-visited (q .dropping) grid outlets (chosen q));
+      no-more-visited = rw (t .answers, e) (no-more-visited (q .edition) (q .dropping) grid outlets (chosen q));
     }
 
     -- on 0 the first places hold all of them
@@ -220,10 +223,10 @@ module _ (q : Call) where
   way-plain (by-stack old work space t) e =
       as-plain (stack-reached old work) (t .traces) (sym (t .traces .numbered) ∙ e)
 
--- FOUR WAYS: whichever of them accept are alike in list, length and number of paths
-module _ (c : Catchment) (place : ℕ) where
+-- FOUR WAYS: by an edition, whichever of them accept are alike in list, length and number of paths
+module _ (edition : ℕ) (c : Catchment) (place : ℕ) where
   abbrev call : Bool → Call
-  call dropping = record { catchment = c; place = place; dropping = dropping }
+  call dropping = record { edition = edition; catchment = c; place = place; dropping = dropping }
 
   pub four-ways : (d d′ : Bool) {r r′ : Traced} {new new′ : Lent} → Way (call d) r new → Way (call d′) r′ new′
       → numberOf (r .answer) ≡ 0 → numberOf (r′ .answer) ≡ 0 → Alike r (new .starts) r′ (new′ .starts)

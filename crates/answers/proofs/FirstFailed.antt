@@ -114,6 +114,11 @@ others n (c ∷ cs) h =
     let p = and-both (isOther n c) (allPass (isOther n) cs) h in
     (λ e. true≢false (sym (p .0) ∙ ap not (eq-eqb (c .number) n e)), others n cs (p .1))
 
+-- PASSED, by that test
+pub passed-others : (n : ℕ) (cs ds : List Check) → allPass (isOther n) cs ≡ true → firstFailed (cs ++ ds) ≡ n → (k : ℕ)
+    → passesOf k cs ≡ true
+passed-others n cs ds h e = all-passed n cs ds (others n cs h) e
+
 -- a number that none before the last has is the last one's, or 0
 pub last-given : (m n : ℕ) (b : Bool) (cs : List Check) → Every (λ c. c .number ≡ m → ⊥) cs
     → firstFailed (cs ++ (check n b ∷ [])) ≡ m → cond b 0 n ≡ m

@@ -11,6 +11,7 @@ use Rattle.ground.specs.Grid.{Grid, cellCount, ground}
 use Rattle.ground.specs.Walk.{ringFree}
 use Rattle.ground.specs.Accumulation.{agrees}
 use Rattle.ground.specs.Subwatershed.{inSubwatershed}
+use Rattle.search.specs.Editions.{isEdition}
 use Rattle.search.specs.Tracing.{numbersEach}
 
 -- a question with its number: does it pass?
@@ -93,3 +94,7 @@ check23 whole lent = check 23 (leb (length whole) (length lent))
 -- 24, converting: both are numbers of tables
 unfoldable pub check24 : ℕ → ℕ → Check
 check24 from to = check 24 (isTable from && isTable to)
+
+-- 25, tracing: the number is that of an edition
+unfoldable pub check25 : ℕ → Check
+check25 edition = check 25 (isEdition edition)

@@ -1,4 +1,4 @@
--- The marked cases, the grids that catch mistakes and ponds, as one table of calls.
+-- The marked cases, the grids that catch mistakes, ponds and divides, as one table of calls.
 -- Assumes nothing.
 use mathlib.Core.Bool.{true}
 use mathlib.Core.List.{List, [], _∷_, _++_}
@@ -11,7 +11,7 @@ use Rattle.answers.specs.Entries.{Catchment, catchment}
 use Rattle.answers.specs.FlowLengths.{lengthGrids}
 use Rattle.answers.specs.MarkedRows.{nines, found, noPlace, refused, stack, wiped, ifDropping, ways}
 use Rattle.answers.specs.MarkedRows.{Mark, compares, accumulates, checks, subaccumulates, traces, calls, draws}
-use Rattle.answers.specs.MarkedRows.{measures, visitsByFirst, eachWay, accumulated}
+use Rattle.answers.specs.MarkedRows.{measures, visitsByFirst, eachWay, eachWayBy, accumulated}
 
 -- ---- M1 to M11
 
@@ -150,7 +150,7 @@ refusedCalls =
     ∷ checks 1 2 (1 ∷ 16 ∷ []) (1 ∷ 2 ∷ []) 14
     ∷ checks 1 2 (1 ∷ 0 ∷ []) (1 ∷ 1 ∷ []) 14
     -- 20 leaves the subaccumulation grid filled and no more
-    ∷ calls (stack true) (ground2 (1 ∷ [])) 0 (nines 3) 8 (refused 20) (1 ∷ 3 ∷ 1 ∷ 9 ∷ []) (nines 3) (nines 8)
+    ∷ calls (stack 1 true) (ground2 (1 ∷ [])) 0 (nines 3) 8 (refused 20) (1 ∷ 3 ∷ 1 ∷ 9 ∷ []) (nines 3) (nines 8)
     -- 15, 16 of the whole list before 17, 17, 18
     ∷ refusals [] 0 15
     ++ refusals (replicate 257 3) 0 15
@@ -215,6 +215,38 @@ ponds =
     ∷ eachWay (λ way. calls way pondOutlet 0 (nines 5) 28 (ifDropping (found 0 1 4 6 3) (found 0 1 4 9 0) way)
     (1 ∷ 1 ∷ 1 ∷ 1 ∷ 9 ∷ 1 ∷ 1 ∷ 1 ∷ 1 ∷ 9 ∷ []) (8 ∷ 6 ∷ 0 ∷ 2 ∷ 9 ∷ []) (wiped 27 way))
 
+-- ---- starts on the divide, by edition 2
+
+-- a snail whose last cell but one is the centre: to 2 it leads around the border. East of the centre lies another outlet,
+-- or a null cell
+abbrev pub snailBeside : ℕ → List ℕ → Catchment
+snailBeside code outlets = accumulated 3 3 (1 ∷ 1 ∷ 64 ∷ 64 ∷ 2 ∷ code ∷ 64 ∷ 16 ∷ 16 ∷ []) outlets
+
+abbrev pub divides : List Mark
+divides =
+    -- the snail's headwater is no divide cell: the cell below it starts, which is no headwater
+    eachWayBy 2 (λ way. calls way snail 0 (nines 3) 28 (found 7 0 1 9 0) (7 ∷ 8 ∷ 9 ∷ 6 ∷ 1 ∷ 2 ∷ 5 ∷ 4 ∷ 3 ∷ 9 ∷ [])
+    (5 ∷ 9 ∷ 9 ∷ []) (wiped 27 way))
+    -- a pond amid its cells is no divide cell, and its own length is not met
+    ++ eachWayBy 2 (λ way. calls way pondOutlet 0 (nines 5) 28 (ifDropping (found 0 1 4 6 3) (found 0 1 4 9 0) way)
+    (1 ∷ 1 ∷ 1 ∷ 1 ∷ 9 ∷ 1 ∷ 1 ∷ 1 ∷ 1 ∷ 9 ∷ []) (8 ∷ 6 ∷ 0 ∷ 2 ∷ 9 ∷ []) (wiped 27 way))
+    -- M1: the outlet's own length is met; M3: so is that of a divide cell below another, and the upper one starts
+    ++ eachWayBy 2 (λ way. calls way (accumulated 1 1 (1 ∷ []) (0 ∷ [])) 0 (nines 1) 4 (found 0 0 1 1 0) (1 ∷ 9 ∷ [])
+    (0 ∷ []) (wiped 3 way))
+    ++ eachWayBy 2 (λ way. calls way ground3 0 (nines 3) 13 (ifDropping (found 2 0 1 3 1) (found 2 0 1 4 0) way)
+    (1 ∷ 4 ∷ 2 ∷ 1 ∷ 9 ∷ []) (3 ∷ 9 ∷ 9 ∷ []) (wiped 12 way))
+    -- an upper outlet is outside, and so is a null cell: the centre beside it is on the divide
+    ++ eachWayBy 2 (λ way. calls way (snailBeside 16 (2 ∷ 5 ∷ [])) 0 (nines 3) 25 (found 6 1 1 8 0)
+    (6 ∷ 7 ∷ 8 ∷ 5 ∷ 1 ∷ 1 ∷ 4 ∷ 3 ∷ 2 ∷ 9 ∷ []) (4 ∷ 9 ∷ 9 ∷ []) (wiped 24 way))
+    ++ eachWayBy 2 (λ way. calls way (snailBeside 0 (2 ∷ [])) 0 (nines 3) 25 (found 6 1 1 8 0)
+    (6 ∷ 7 ∷ 8 ∷ 5 ∷ 1 ∷ 0 ∷ 4 ∷ 3 ∷ 2 ∷ 9 ∷ []) (4 ∷ 9 ∷ 9 ∷ []) (wiped 24 way))
+    -- 21 by the divide cells
+    ++ eachWayBy 2 (λ way. calls way pondOutlet 0 (nines 3) 28 (ifDropping (noPlace 4 6 3) (noPlace 4 9 0) way)
+    (1 ∷ 1 ∷ 1 ∷ 1 ∷ 9 ∷ 1 ∷ 1 ∷ 1 ∷ 1 ∷ 9 ∷ []) (8 ∷ 6 ∷ 0 ∷ []) (wiped 27 way))
+    -- 25 before 10
+    ++ eachWayBy 0 (λ way. calls way (catchment 0 4 [] [] []) 5 (nines 1) 3 (refused 25) (nines 1) (nines 1) (nines 3))
+    ++ eachWayBy 3 (λ way. calls way (ground2 (1 ∷ [])) 0 (nines 1) 3 (refused 25) (nines 4) (nines 1) (nines 3))
+
 -- THE TABLE
 abbrev pub marks : List Mark
-marks = markedCases ++ trapGrids ++ refusedCalls ++ drawings ++ ponds
+marks = markedCases ++ trapGrids ++ refusedCalls ++ drawings ++ ponds ++ divides

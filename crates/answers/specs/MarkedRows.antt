@@ -35,26 +35,29 @@ noPlace paths visited dropped = answered visited dropped (NoPlace paths)
 abbrev pub refused : ℕ → Traced
 refused number = answered 0 0 (Refused number)
 
--- ---- the four ways of tracing: an engine, with or without dropping
+-- ---- the four ways of tracing by an edition: an engine, with or without dropping
 
 pub data Tracer : Type 0 where
-  stack : Bool → Tracer
-  recursion : Bool → Tracer
+  stack : (edition : ℕ) → Bool → Tracer
+  recursion : (edition : ℕ) → Bool → Tracer
+
+abbrev pub tracersBy : ℕ → List Tracer
+tracersBy edition = stack edition true ∷ stack edition false ∷ recursion edition true ∷ recursion edition false ∷ []
 
 abbrev pub tracers : List Tracer
-tracers = stack true ∷ stack false ∷ recursion true ∷ recursion false ∷ []
+tracers = tracersBy 1
 
 -- what is left in a working space: by stack n zeros and a number kept; recursion has none, and it is as it was lent
 abbrev pub wiped : ℕ → Tracer → List ℕ
-wiped n (stack dropping) = zeros n ++ (9 ∷ [])
-wiped n (recursion dropping) = nines (suc n)
+wiped n (stack edition dropping) = zeros n ++ (9 ∷ [])
+wiped n (recursion edition dropping) = nines (suc n)
 
 -- what is told with dropping, and without
 abbrev pub ifDropping : Traced → Traced → Tracer → Traced
-ifDropping dropping plain (stack true) = dropping
-ifDropping dropping plain (stack false) = plain
-ifDropping dropping plain (recursion true) = dropping
-ifDropping dropping plain (recursion false) = plain
+ifDropping dropping plain (stack edition true) = dropping
+ifDropping dropping plain (stack edition false) = plain
+ifDropping dropping plain (recursion edition true) = dropping
+ifDropping dropping plain (recursion edition false) = plain
 
 -- an outlet by each of the four: what is answered, and what is left in a list of three places and in a working space
 -- with one number more than is needed
@@ -97,9 +100,12 @@ pub data Mark : Type 0 where
   -- what 01's rule visits and drops from the outlet at a place of the list, to be compared with
   visitsByFirst : Catchment → (place : ℕ) → (visited dropped : ℕ) → Mark
 
--- a row for each of the four
+-- a row for each of the four, by edition 1 and by any
 abbrev pub eachWay : (Tracer → Mark) → List Mark
 eachWay row = map row tracers
+
+abbrev pub eachWayBy : ℕ → (Tracer → Mark) → List Mark
+eachWayBy edition row = map row (tracersBy edition)
 
 -- a lent grid, one place longer than it need be
 abbrev pub lentGrid : Grid → List ℕ
@@ -115,13 +121,13 @@ accumulated rows cols codes outlets =
 
 module _ (c : Catchment) (place : ℕ) where
   abbrev pub callBy : Tracer → Call
-  callBy (stack dropping) = record { catchment = c; place = place; dropping = dropping }
-  callBy (recursion dropping) = record { catchment = c; place = place; dropping = dropping }
+  callBy (stack edition dropping) = record { edition = edition; catchment = c; place = place; dropping = dropping }
+  callBy (recursion edition dropping) = record { edition = edition; catchment = c; place = place; dropping = dropping }
 
   module _ (starts work : List ℕ) where
     abbrev pub calledNumber : Tracer → ℕ
-    calledNumber (stack d) = stackNumber (callBy (stack d)) (lent (lentGrid (c .grid)) starts) work
-    calledNumber (recursion d) = recursionNumber (callBy (recursion d)) (lent (lentGrid (c .grid)) starts)
+    calledNumber (stack e d) = stackNumber (callBy (stack e d)) (lent (lentGrid (c .grid)) starts) work
+    calledNumber (recursion e d) = recursionNumber (callBy (recursion e d)) (lent (lentGrid (c .grid)) starts)
 
     abbrev pub calledAnswer : Tracer → Traced
     calledAnswer way = tracedBy (calledNumber way) (chosenTracing (callBy way))
@@ -133,12 +139,12 @@ module _ (c : Catchment) (place : ℕ) where
     calledStarts way = leavesStarts (callBy way) (calledNumber way) starts
 
     abbrev pub calledWork : Tracer → List ℕ
-    calledWork (stack d) = leavesWork (callBy (stack d)) (calledNumber (stack d)) work
-    calledWork (recursion d) = work
+    calledWork (stack e d) = leavesWork (callBy (stack e d)) (calledNumber (stack e d)) work
+    calledWork (recursion e d) = work
 
   abbrev pub tracedWays : TracedWays
   tracedWays =
-      let work = nines (suc (numbersEach * chosenCells (callBy (stack true)))) in
+      let work = nines (suc (numbersEach * chosenCells (callBy (stack 1 true)))) in
       record {
         answers = map (calledAnswer (nines 3) work) tracers;
         starts = map (calledStarts (nines 3) work) tracers;
@@ -166,5 +172,5 @@ worked (measures c n kept) =
     let four = lengthGrids old old old old in
     measures c (flowLengthsNumber c four) (flowLengthsLeaves c four)
 worked (visitsByFirst c place visited dropped) =
-    let t = firstTracing true (c .grid) (c .outlets) (getD (c .outlets) place 0) in
+    let t = firstTracing 1 true (c .grid) (c .outlets) (getD (c .outlets) place 0) in
     visitsByFirst c place (t .visited) (t .dropped)

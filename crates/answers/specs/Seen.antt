@@ -9,18 +9,18 @@ use Rattle.lengths.specs.declared.Length.{Length}
 use Rattle.lists.specs.Lists.{In, Sorted, howMany}
 use Rattle.ground.specs.Grid.{cellCount}
 use Rattle.ground.specs.Subwatershed.{inSubwatershed, HasLength, Before, Longest}
+use Rattle.search.specs.Editions.{mayStart}
 use Rattle.search.specs.Tracing.{firstTracing}
-use Rattle.search.specs.Demand.{anyCell}
 use Rattle.answers.specs.declared.Answer.the-variants.{Found, NoPlace}
 use Rattle.answers.specs.declared.Traced.{Traced}
 use Rattle.answers.specs.Answers.{numberOf, inNumbers}
 use Rattle.answers.specs.Entries.{Catchment}
 use Rattle.answers.specs.Tracings.{Call, Lent, chosen, chosenTracing, TracesByRecursion, TracesByStack}
 
--- 01, Longest: "All such cells are listed", and in which order
-pub record LongestStarts (c : Catchment) (o : ℕ) (cells : List ℕ) : Type 0 where
-  -- exactly the cells of the subwatershed whose walk none exceeds
-  pub exact : (x : ℕ) → In x cells ↔ Longest (c .grid) (c .outlets) anyCell o x
+-- 01, Longest: "All such cells are listed", and in which order. 02, U7: by edition 2 of the divide cells alone
+pub record LongestStarts (edition : ℕ) (c : Catchment) (o : ℕ) (cells : List ℕ) : Type 0 where
+  -- exactly the cells of the subwatershed that may start and whose walk none of these exceeds
+  pub exact : (x : ℕ) → In x cells ↔ Longest (c .grid) (c .outlets) (mayStart edition (c .grid) (c .outlets) o) o x
   -- each once
   pub once : Sorted (λ x y. x ≡ y → ⊥) cells
   -- every earlier one parts from every later one by an earlier neighbour
@@ -35,7 +35,7 @@ module _ (q : Call) (r : Traced) where
     pub all-cells : let c = q .catchment in
         r .visited + r .dropped ≡ howMany (inSubwatershed (c .grid) (c .outlets) (chosen q)) (cellCount (c .grid))
     pub no-more-visited : let c = q .catchment in
-        r .visited ≤ firstTracing (q .dropping) (c .grid) (c .outlets) (chosen q) .visited
+        r .visited ≤ firstTracing (q .edition) (q .dropping) (c .grid) (c .outlets) (chosen q) .visited
 
   module _ (starts : List ℕ) where
     -- on 0: found, with the length of each listed cell's walk, and as many paths as there are cells listed
@@ -45,7 +45,7 @@ module _ (q : Call) (r : Traced) where
       pub found : r .answer ≡ Found (len .straight) (len .diagonal) paths
       pub has-place : paths ≤ length starts
       pub some-path : 0 < paths
-      pub listed : LongestStarts (q .catchment) (chosen q) (take paths starts)
+      pub listed : LongestStarts (q .edition) (q .catchment) (chosen q) (take paths starts)
       pub lengths : (c : ℕ) → In c (take paths starts)
           → HasLength (q .catchment .grid) (q .catchment .outlets) (chosen q) c len
       pub counts : SearchCounts
@@ -55,7 +55,7 @@ module _ (q : Call) (r : Traced) where
       pub all : List ℕ
       pub no-place : r .answer ≡ NoPlace (length all)
       pub too-short : length starts < length all
-      pub longest : LongestStarts (q .catchment) (chosen q) all
+      pub longest : LongestStarts (q .edition) (q .catchment) (chosen q) all
       pub full : starts ≡ take (length starts) all
       pub counts : SearchCounts
 

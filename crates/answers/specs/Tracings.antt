@@ -11,21 +11,26 @@ use Rattle.ground.specs.Accumulation.{subaccumulation, subaccumulations}
 use Rattle.search.specs.Tracing.{Tracing, pathCount, startCells, tracing, numbersEach}
 use Rattle.answers.specs.declared.Traced.{Traced}
 use Rattle.answers.specs.Answers.{numberOf, tracedBy}
-use Rattle.answers.specs.Checks.{Check, firstFailed, check19, check20, check21}
+use Rattle.answers.specs.Checks.{Check, firstFailed, check19, check20, check21, check25}
 use Rattle.answers.specs.Entries.{Catchment, catchment, placeChecks}
 
 -- ---- a call
 
--- a place of the list of outlets, and whether the search drops
+-- an edition of the standard, a place of the list of outlets, and whether the search drops
 pub record Call : Type 0 where
+  pub edition : ℕ
   pub catchment : Catchment
   pub place : ℕ
   pub dropping : Bool
 
 -- the same from what the entries are handed
-abbrev pub callOf : ℕ → ℕ → List ℕ → List ℕ → List ℕ → ℕ → Bool → Call
-callOf rows cols codes accumulation outlets place dropping =
-    record { catchment = catchment rows cols codes accumulation outlets; place = place; dropping = dropping }
+abbrev pub callOf : ℕ → ℕ → ℕ → List ℕ → List ℕ → List ℕ → ℕ → Bool → Call
+callOf edition rows cols codes accumulation outlets place dropping = record {
+  edition = edition;
+  catchment = catchment rows cols codes accumulation outlets;
+  place = place;
+  dropping = dropping;
+}
 
 -- what it is lent to fill: the subaccumulation grid and the list of starts
 pub record Lent : Type 0 where
@@ -44,13 +49,14 @@ module _ (q : Call) where
   abbrev pub chosenCells : ℕ
   chosenCells = subaccumulation (q .catchment .grid) (q .catchment .outlets) chosen
 
-  -- what the search tells of it
+  -- what the search tells of it by the edition
   abbrev pub chosenTracing : Tracing
-  chosenTracing = tracing (q .dropping) (q .catchment .grid) (q .catchment .outlets) chosen
+  chosenTracing = tracing (q .edition) (q .dropping) (q .catchment .grid) (q .catchment .outlets) chosen
 
-  -- 10, 11 of three grids, 12, 14 to 18
+  -- 25; 10, 11 of three grids, 12, 14 to 18
   abbrev pub callChecks : List ℕ → List Check
-  callChecks old = placeChecks (q .catchment) (q .place) (length (q .catchment .accumulation) ∷ length old ∷ [])
+  callChecks old = check25 (q .edition)
+      ∷ placeChecks (q .catchment) (q .place) (length (q .catchment .accumulation) ∷ length old ∷ [])
 
   -- what either leaves, by its number. The subaccumulation grid is filled once 18 is past: on 0, 19, 20 and 21
   unfoldable pub leavesSubaccumulation : ℕ → List ℕ → List ℕ

@@ -1,5 +1,5 @@
-// The edge of recursion: 4,096 cells and 4,097, by recursion and from pending cells, without and with dropping. Then
-// drawing: the part that is handed back, and what every lent place holds afterwards.
+// The edge of recursion: 4,096 cells and 4,097, by recursion and from pending cells, by either edition, without and with
+// dropping. Then drawing: the part that is handed back, and what every lent place holds afterwards.
 use accumulation::accumulate;
 use answers::Answer;
 use answers::Traced;
@@ -64,8 +64,8 @@ fn list(starts: [u32; 3]) {
     text(b"\n");
 }
 
-// The last cell of the first row is the outlet of all.
-fn trace_row(rows: usize, codes: &[u8], dropping: bool) {
+// The last cell of the first row is the outlet of all. Every cell is on the divide.
+fn trace_row(edition: u32, rows: usize, codes: &[u8], dropping: bool) {
     let outlets = [4095u32; 1];
     let mut accumulation = [0u32; 8192];
     let mut subaccumulation = [0u32; 8192];
@@ -73,6 +73,7 @@ fn trace_row(rows: usize, codes: &[u8], dropping: bool) {
     let mut work = [0u32; 12291];
     accumulate(rows, 4096, codes, &mut accumulation);
     show(trace_by_recursion(
+        edition,
         rows,
         4096,
         codes,
@@ -85,6 +86,7 @@ fn trace_row(rows: usize, codes: &[u8], dropping: bool) {
     ));
     list(starts);
     show(trace_by_stack(
+        edition,
         rows,
         4096,
         codes,
@@ -99,9 +101,9 @@ fn trace_row(rows: usize, codes: &[u8], dropping: bool) {
     list(starts);
 }
 
-// An outlet of 4,096 cells is traced by recursion, and one of 4,097 is refused with 19; from pending cells both are
-// traced.
-fn longest_rows() {
+// By an edition, an outlet of 4,096 cells is traced by recursion, and one of 4,097 is refused with 19; from pending
+// cells both are traced.
+fn longest_rows(edition: u32) {
     let mut codes = [1u8; 8192];
     let mut i: usize = 4096;
     while i < 8192 {
@@ -109,10 +111,10 @@ fn longest_rows() {
         i += 1;
     }
     codes[4096] = 64;
-    trace_row(1, &codes, false);
-    trace_row(1, &codes, true);
-    trace_row(2, &codes, false);
-    trace_row(2, &codes, true);
+    trace_row(edition, 1, &codes, false);
+    trace_row(edition, 1, &codes, true);
+    trace_row(edition, 2, &codes, false);
+    trace_row(edition, 2, &codes, true);
 }
 
 // One drawing into lent places: its number, every cell of the part that is handed back, and every lent place, once the
@@ -187,6 +189,7 @@ fn drawings() {
 }
 
 fn main() {
-    longest_rows();
+    longest_rows(1);
+    longest_rows(2);
     drawings();
 }

@@ -44,9 +44,9 @@ pub record StackInC (q : Call) (old : Lent) (work : List ℕ) (number : ℕ) (re
   pub traces : TracesByStack q old work answer new space
   pub in-numbers : InNumbers answer number results
 
-pub record AllInC (c : Catchment) (old : LentAll) (number : ℕ) (sums : List ℕ) (new : LentAll) : Type 0 where
+pub record AllInC (edition : ℕ) (c : Catchment) (old : LentAll) (number : ℕ) (sums : List ℕ) (new : LentAll) : Type 0 where
   pub answer : TracedAll
-  pub traces : TracesAll c old answer new
+  pub traces : TracesAll edition c old answer new
   pub is-number : number ≡ answer .number
   pub is-sums : sums ≡ answer .visited ∷ answer .dropped ∷ []
 

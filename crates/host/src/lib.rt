@@ -115,6 +115,7 @@ fn hand_back(t: Traced, results: &mut [u32; 5]) -> u32
 
 #[no_mangle]
 pub extern "C" fn jb_trace_by_stack(
+    edition: u32,
     rows: usize,
     cols: usize,
     codes: &[u8],
@@ -128,12 +129,13 @@ pub extern "C" fn jb_trace_by_stack(
     results: &mut [u32; 5],
 ) -> u32
     ensures { λ r. ⌜ StackInC
-        (callOf rows cols (now (codes .entry)) (now (accumulation .entry)) (now (outlets .entry)) place
+        (callOf edition rows cols (now (codes .entry)) (now (accumulation .entry)) (now (outlets .entry)) place
         (nonZero dropping)) (lent (now (subaccumulation .entry)) (now (starts .entry))) (now (work .entry))
         r (now (results .exit)) (lent (now (subaccumulation .exit)) (now (starts .exit))) (now (work .exit)) ⌝ }
 {
     let drops = dropping != 0;
     let t = tracing::trace_by_stack(
+        edition,
         rows,
         cols,
         codes,
@@ -150,6 +152,7 @@ pub extern "C" fn jb_trace_by_stack(
 
 #[no_mangle]
 pub extern "C" fn jb_trace_by_recursion(
+    edition: u32,
     rows: usize,
     cols: usize,
     codes: &[u8],
@@ -162,12 +165,13 @@ pub extern "C" fn jb_trace_by_recursion(
     results: &mut [u32; 5],
 ) -> u32
     ensures { λ r. ⌜ RecursionInC
-        (callOf rows cols (now (codes .entry)) (now (accumulation .entry)) (now (outlets .entry)) place
+        (callOf edition rows cols (now (codes .entry)) (now (accumulation .entry)) (now (outlets .entry)) place
         (nonZero dropping)) (lent (now (subaccumulation .entry)) (now (starts .entry)))
         r (now (results .exit)) (lent (now (subaccumulation .exit)) (now (starts .exit))) ⌝ }
 {
     let with_dropping = dropping != 0;
     let t = tracing::trace_by_recursion(
+        edition,
         rows,
         cols,
         codes,
@@ -183,6 +187,7 @@ pub extern "C" fn jb_trace_by_recursion(
 
 #[no_mangle]
 pub extern "C" fn jb_trace_all(
+    edition: u32,
     rows: usize,
     cols: usize,
     codes: &[u8],
@@ -194,13 +199,14 @@ pub extern "C" fn jb_trace_all(
     work: &mut [u32],
     sums: &mut [u32; 2],
 ) -> u32
-    ensures { λ r. ⌜ AllInC
+    ensures { λ r. ⌜ AllInC edition
         (catchment rows cols (now (codes .entry)) (now (accumulation .entry)) (now (outlets .entry)))
         (lentAll (now (subaccumulation .entry)) (now (starts .entry)) (now (counts .entry)) (now (work .entry)))
         r (now (sums .exit))
         (lentAll (now (subaccumulation .exit)) (now (starts .exit)) (now (counts .exit)) (now (work .exit))) ⌝ }
 {
     let t = tracingall::trace_all(
+        edition,
         rows,
         cols,
         codes,

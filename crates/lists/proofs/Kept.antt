@@ -16,6 +16,10 @@ kept-all = record { same-length = refl; rest = λ x h. refl }
 pub kept-then : {n : ℕ} {l m r : List ℕ} → Kept n l m → Kept n m r → Kept n l r
 kept-then a b = record { same-length = b .same-length ∙ a .same-length; rest = λ x h. b .rest x h ∙ a .rest x h }
 
+-- more places may change
+pub kept-wider : {m n : ℕ} {l r : List ℕ} → m ≤ n → Kept m l r → Kept n l r
+kept-wider h k = record { same-length = k .same-length; rest = λ x i. k .rest x (omega arith) }
+
 pub kept-set : {n : ℕ} {l : List ℕ} (i v : ℕ) → i < n → Kept n l (set l i v)
 kept-set {n} {l} i v h = record {
   same-length = length-set l i v;

@@ -47,6 +47,15 @@ overlaid-full new more old h =
       drop-of-length-le old {i = length (new ++ more)} (omega (arith, e)),
     )
 
+-- what was changed only where the new numbers come makes no difference
+pub overlaid-kept : (xs : List ℕ) {old new : List ℕ} → Kept (length xs) old new → overlaid xs new ≡ overlaid xs old
+unfolding overlaid
+overlaid-kept xs {old} {new} k = rw (k .same-length) (ap (λ (l : List ℕ). take (length old) xs ++ l)
+    (ext-getD 0 (drop (length xs) new) (drop (length xs) old)
+    (length-drop (length xs) new ∙ rw (k .same-length) (sym (length-drop (length xs) old)))
+    (λ i h. getD-drop (length xs) new i 0 ∙ k .rest (length xs + i) (omega arith)
+    ∙ sym (getD-drop (length xs) old i 0))))
+
 -- a list that has the new numbers in front, and kept what lies beyond, is that list
 pub front-is : (xs : List ℕ) {old new : List ℕ} → length xs ≤ length old → Kept (length xs) old new
     → ((x : ℕ) → x < length xs → getD new x 0 ≡ getD xs x 0) → new ≡ overlaid xs old

@@ -8,7 +8,7 @@ use native.Mathlib.Omega.{arith}
 use lib.ListN.{length, getD, drop, drop-of-length-le}
 use Rattle.lists.specs.Lists.{sumOf}
 use Rattle.lists.specs.Slices.{Kept}
-use Rattle.lists.proofs.Kept.{kept-then}
+use Rattle.lists.proofs.Kept.{kept-then, kept-wider}
 use Rattle.lists.proofs.Sums.{sum-left, none-greater}
 use Rattle.ground.specs.Grid.{Grid, gridOf}
 use Rattle.ground.specs.Accumulation.{subaccumulation}
@@ -17,15 +17,11 @@ use Rattle.progress.specs.declared.Progress.{Progress}
 use Rattle.alloutlets.specs.AllOutlets.{tracingOf, mostCells, pathCounts}
 use Rattle.tracing.specs.Answering.{cellsOf, Told}
 use Rattle.passes.specs.declared.Sums.{Sums}
-use Rattle.passes.specs.Passes.{Searchable, sumsOf, WorkKept}
+use Rattle.passes.specs.Passes.{Traceable, sumsOf, WorkKept}
 
 -- ---- a search within the working numbers that 20 asks for
 
-kept-wider : {n m : ℕ} {old new : List ℕ} → n ≤ m → Kept n old new → Kept m old new
-kept-wider h k = record { same-length = k .same-length; rest = λ x i. k .rest x (omega (arith, h, i)) }
-
-module _ {rows cols : ℕ} {codes outlets subaccumulations work : List ℕ}
-    (s : Searchable rows cols codes outlets subaccumulations work) {space : List ℕ}
+module _ {rows cols : ℕ} {codes outlets work : List ℕ} (s : Traceable rows cols codes outlets work) {space : List ℕ}
     (k : WorkKept (gridOf rows cols codes) outlets work space) {j : ℕ} (i : j < length outlets) where
   most : cellsOf rows cols codes outlets j ≤ mostCells (gridOf rows cols codes) outlets
   most = none-greater (subaccumulation (gridOf rows cols codes) outlets) outlets j i
@@ -38,11 +34,9 @@ module _ {rows cols : ℕ} {codes outlets subaccumulations work : List ℕ}
   kept-search m = kept-then k (kept-wider (omega (arith, most)) m)
 
 -- after any of them the outlets can still be searched
-pub kept-searchable : {rows cols : ℕ} {codes outlets subaccumulations work space : List ℕ}
-    → Searchable rows cols codes outlets subaccumulations work → WorkKept (gridOf rows cols codes) outlets work space
-    → Searchable rows cols codes outlets subaccumulations space
-kept-searchable s k = record {
-  ready = s .ready;
+pub kept-traceable : {rows cols : ℕ} {codes outlets work space : List ℕ} → Traceable rows cols codes outlets work
+    → WorkKept (gridOf rows cols codes) outlets work space → Traceable rows cols codes outlets space
+kept-traceable s k = record {
   chosen = s .chosen;
   few-outlets = s .few-outlets;
   few-cells = s .few-cells;
@@ -51,18 +45,18 @@ kept-searchable s k = record {
 
 -- ---- what is counted
 
-module _ (g : Grid) (outlets : List ℕ) where
+module _ (edition : ℕ) (g : Grid) (outlets : List ℕ) where
   abbrev cellsIn : ℕ → ℕ
   cellsIn = subaccumulation g outlets
 
   abbrev pub pathsTo : ℕ → ℕ
-  pathsTo o = pathCount (tracingOf g outlets o)
+  pathsTo o = pathCount (tracingOf edition g outlets o)
 
   abbrev visitedTo : ℕ → ℕ
-  visitedTo o = tracingOf g outlets o .visited
+  visitedTo o = tracingOf edition g outlets o .visited
 
   abbrev droppedTo : ℕ → ℕ
-  droppedTo o = tracingOf g outlets o .dropped
+  droppedTo o = tracingOf edition g outlets o .dropped
 
   -- with f of each outlet that is left, n is the sum over all
   abbrev pub Adds : (ℕ → ℕ) → ℕ → ℕ → Type 0
@@ -93,7 +87,7 @@ module _ (g : Grid) (outlets : List ℕ) where
     adds-more f n e q = rw (add-one j) (omega (arith, e, q, sum-left f outlets j i))
 
     pub counting-more : {s : Sums} {old new : List ℕ} {p : Progress} → Counting j s
-        → Told (tracingOf g outlets (getD outlets j 0)) (cellsIn (getD outlets j 0)) old p new
+        → Told (tracingOf edition g outlets (getD outlets j 0)) (cellsIn (getD outlets j 0)) old p new
         → Counting (j + 1) (sums (s .paths + p .paths) (s .visited + p .visited) (s .dropped + p .dropped))
     counting-more {s} {old} {new} {p} c t = record {
       paths = adds-more pathsTo (s .paths) (c .paths) (t .counted .count);
@@ -105,7 +99,7 @@ module _ (g : Grid) (outlets : List ℕ) where
 
     -- and all of them fit
     pub counting-fits : {s : Sums} {old new : List ℕ} {p : Progress} → Counting j s
-        → Told (tracingOf g outlets (getD outlets j 0)) (cellsIn (getD outlets j 0)) old p new
+        → Told (tracingOf edition g outlets (getD outlets j 0)) (cellsIn (getD outlets j 0)) old p new
         → sumOf (map cellsIn outlets) ≤ 2 ^ 24
         → (s .paths + p .paths ≤ 2 ^ 24) × (s .visited + p .visited ≤ 2 ^ 24) × (s .dropped + p .dropped ≤ 2 ^ 24)
     counting-fits {s} {old} {new} {p} c t h =
@@ -121,7 +115,7 @@ module _ (g : Grid) (outlets : List ℕ) where
   adds-all f j n h e =
       omega (arith, e, ap (λ (os : List ℕ). sumOf (map f os)) (drop-of-length-le outlets {i = j} h))
 
-  pub counted-all : {j : ℕ} {s : Sums} → length outlets ≤ j → Counting j s → s ≡ sumsOf g outlets
+  pub counted-all : {j : ℕ} {s : Sums} → length outlets ≤ j → Counting j s → s ≡ sumsOf edition g outlets
   counted-all {j} {s} h c =
       let p = adds-all pathsTo j (s .paths) h (c .paths) in
       let v = adds-all visitedTo j (s .visited) h (c .visited) in
@@ -130,5 +124,5 @@ module _ (g : Grid) (outlets : List ℕ) where
 
   -- and there are few paths
   pub few-counted : {j : ℕ} {s : Sums} → length outlets ≤ j → Counting j s → sumOf (map cellsIn outlets) ≤ 2 ^ 24
-      → sumOf (pathCounts g outlets) ≤ 2 ^ 24
+      → sumOf (pathCounts edition g outlets) ≤ 2 ^ 24
   few-counted {j} {s} h c few = omega (arith, adds-all pathsTo j (s .paths) h (c .paths), c .few, c .cells, few)

@@ -38,13 +38,13 @@ put-part xs cs a {ys} h e =
     whole = overlaid-front cs (drop a xs) (omega (arith, h, long))
         ∙ ap (λ (l : List ℕ). cs ++ l) (drop-drop (length cs) a xs)
 
-module _ (g : Grid) (outlets : List ℕ) where
+module _ (edition : ℕ) (g : Grid) (outlets : List ℕ) where
   pub record Listing (starts₀ counts₀ : List ℕ) (j from : ℕ) (starts counts : List ℕ) : Type 0 where
-    pub before : Adds g outlets (pathsTo g outlets) j from
+    pub before : Adds edition g outlets (pathsTo edition g outlets) j from
     pub same-starts : length starts ≡ length starts₀
     pub same-counts : length counts ≡ length counts₀
-    pub starts-left : sets starts from (joined (map (startsTo g outlets) (drop j outlets))) ≡ sets starts₀ 0 (allStarts g outlets)
-    pub counts-left : sets counts j (map (pathsTo g outlets) (drop j outlets)) ≡ sets counts₀ 0 (pathCounts g outlets)
+    pub starts-left : sets starts from (joined (map (startsTo edition g outlets) (drop j outlets))) ≡ sets starts₀ 0 (allStarts edition g outlets)
+    pub counts-left : sets counts j (map (pathsTo edition g outlets) (drop j outlets)) ≡ sets counts₀ 0 (pathCounts edition g outlets)
 
   pub listing-none : {starts counts : List ℕ} → Listing starts counts 0 0 starts counts
   listing-none = record {
@@ -57,28 +57,28 @@ module _ (g : Grid) (outlets : List ℕ) where
 
   module _ {starts₀ counts₀ : List ℕ} where
     -- what is listed, and one outlet more, stays within the list
-    module _ {j : ℕ} (i : j < length outlets) (room : sumOf (pathCounts g outlets) ≤ length starts₀) {from : ℕ}
+    module _ {j : ℕ} (i : j < length outlets) (room : sumOf (pathCounts edition g outlets) ≤ length starts₀) {from : ℕ}
         {starts counts : List ℕ} (l : Listing starts₀ counts₀ j from starts counts) where
-      pub within : from + pathsTo g outlets (getD outlets j 0) ≤ length starts
-      within = omega (arith, l .before, l .same-starts, room, sum-left (pathsTo g outlets) outlets j i)
+      pub within : from + pathsTo edition g outlets (getD outlets j 0) ≤ length starts
+      within = omega (arith, l .before, l .same-starts, room, sum-left (pathsTo edition g outlets) outlets j i)
 
-      pub fits-all : from + pathsTo g outlets (getD outlets j 0) ≤ sumOf (pathCounts g outlets)
-      fits-all = omega (arith, l .before, sum-left (pathsTo g outlets) outlets j i)
+      pub fits-all : from + pathsTo edition g outlets (getD outlets j 0) ≤ sumOf (pathCounts edition g outlets)
+      fits-all = omega (arith, l .before, sum-left (pathsTo edition g outlets) outlets j i)
 
       pub listing-more : {starts′ : List ℕ} (count : ℕ)
-          → starts′ ≡ sets starts from (startsTo g outlets (getD outlets j 0))
-          → count ≡ pathsTo g outlets (getD outlets j 0)
+          → starts′ ≡ sets starts from (startsTo edition g outlets (getD outlets j 0))
+          → count ≡ pathsTo edition g outlets (getD outlets j 0)
           → Listing starts₀ counts₀ (j + 1) (from + count) starts′ (set counts j count)
       listing-more {starts′} count e q = record {
-        before = rw (add-one j) (omega (arith, l .before, q, sum-left (pathsTo g outlets) outlets j i));
-        same-starts = ap length e ∙ length-sets starts from (startsTo g outlets (getD outlets j 0)) ∙ l .same-starts;
+        before = rw (add-one j) (omega (arith, l .before, q, sum-left (pathsTo edition g outlets) outlets j i));
+        same-starts = ap length e ∙ length-sets starts from (startsTo edition g outlets (getD outlets j 0)) ∙ l .same-starts;
         same-counts = length-set counts j count ∙ l .same-counts;
-        starts-left = rw (add-one j, e, q, sym (long-starts g outlets (getD outlets j 0))) (
-            sets-after (startsTo g outlets (getD outlets j 0)) (joined (map (startsTo g outlets) (drop (suc j) outlets)))
-            starts from ∙ ap (sets starts from) (sym (joined-left (startsTo g outlets) outlets j i)) ∙ l .starts-left
+        starts-left = rw (add-one j, e, q, sym (long-starts edition g outlets (getD outlets j 0))) (
+            sets-after (startsTo edition g outlets (getD outlets j 0)) (joined (map (startsTo edition g outlets) (drop (suc j) outlets)))
+            starts from ∙ ap (sets starts from) (sym (joined-left (startsTo edition g outlets) outlets j i)) ∙ l .starts-left
             );
         counts-left = rw (add-one j, q) (
-            ap (λ (os : List ℕ). sets counts j (map (pathsTo g outlets) os)) (sym (drop-cons outlets j 0 i))
+            ap (λ (os : List ℕ). sets counts j (map (pathsTo edition g outlets) os)) (sym (drop-cons outlets j 0 i))
             ∙ l .counts-left
             );
       }
@@ -89,11 +89,11 @@ module _ (g : Grid) (outlets : List ℕ) where
       none-left : drop j outlets ≡ []
       none-left = drop-of-length-le outlets {i = j} h
 
-      pub all-listed : sumOf (pathCounts g outlets) ≤ length starts₀ → starts ≡ overlaid (allStarts g outlets) starts₀
+      pub all-listed : sumOf (pathCounts edition g outlets) ≤ length starts₀ → starts ≡ overlaid (allStarts edition g outlets) starts₀
       unfolding joined
-      all-listed r = ap (λ (os : List ℕ). sets starts from (joined (map (startsTo g outlets) os))) (sym none-left) ∙ l .starts-left
-          ∙ sets-overlaid starts₀ (allStarts g outlets) (omega (arith, r, all-long g outlets))
+      all-listed r = ap (λ (os : List ℕ). sets starts from (joined (map (startsTo edition g outlets) os))) (sym none-left) ∙ l .starts-left
+          ∙ sets-overlaid starts₀ (allStarts edition g outlets) (omega (arith, r, all-long edition g outlets))
 
-      pub all-counted : length outlets ≤ length counts₀ → counts ≡ overlaid (pathCounts g outlets) counts₀
-      all-counted r = ap (λ (os : List ℕ). sets counts j (map (pathsTo g outlets) os)) (sym none-left) ∙ l .counts-left
-          ∙ sets-overlaid counts₀ (pathCounts g outlets) (omega (arith, r, length-map outlets (pathsTo g outlets)))
+      pub all-counted : length outlets ≤ length counts₀ → counts ≡ overlaid (pathCounts edition g outlets) counts₀
+      all-counted r = ap (λ (os : List ℕ). sets counts j (map (pathsTo edition g outlets) os)) (sym none-left) ∙ l .counts-left
+          ∙ sets-overlaid counts₀ (pathCounts edition g outlets) (omega (arith, r, length-map outlets (pathsTo edition g outlets)))

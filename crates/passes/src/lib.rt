@@ -1,4 +1,4 @@
-// The two passes over the outlets of a list, in a grid that holds the subaccumulation: the first counts, the second
+// The two passes over the outlets of a list, in a grid that is ready for their searches: the first counts, the second
 // lists.
 use lists::index_of;
 use tracing::list_at;
@@ -19,6 +19,7 @@ pub struct Sums {
 
 // Searches each outlet, and adds up what it finds.
 pub fn count_all(
+    edition: u32,
     rows: usize,
     cols: usize,
     codes: &[u8],
@@ -26,8 +27,8 @@ pub fn count_all(
     subaccumulation: &[u32],
     work: &mut [u32],
 ) -> Sums
-    requires { ⌜ Searchable rows cols (now codes) (now outlets) (now subaccumulation) (now work) ⌝ }
-    ensures { λ r. ⌜ CountsAll (gridOf rows cols (now (codes .entry))) (now (outlets .entry)) (now (work .entry))
+    requires { ⌜ Searchable edition rows cols (now codes) (now outlets) (now subaccumulation) (now work) ⌝ }
+    ensures { λ r. ⌜ CountsAll edition (gridOf rows cols (now (codes .entry))) (now (outlets .entry)) (now (work .entry))
         r (now (work .exit)) ⌝ }
 {
     let mut s = Sums {
@@ -37,7 +38,17 @@ pub fn count_all(
     };
     let mut j: usize = 0;
     while j < outlets.len() {
-        let p = search_at(rows, cols, codes, outlets, subaccumulation, true, j, work);
+        let p = search_at(
+            edition,
+            rows,
+            cols,
+            codes,
+            outlets,
+            subaccumulation,
+            true,
+            j,
+            work,
+        );
         s = Sums {
             paths: s.paths + p.paths,
             visited: s.visited + p.visited,
@@ -50,6 +61,7 @@ pub fn count_all(
 
 // Searches each outlet once more, and writes its starts after those before it, and their count.
 pub fn list_all(
+    edition: u32,
     rows: usize,
     cols: usize,
     codes: &[u8],
@@ -59,11 +71,11 @@ pub fn list_all(
     counts: &mut [u32],
     work: &mut [u32],
 )
-    requires { ⌜ Searchable rows cols (now codes) (now outlets) (now subaccumulation) (now work) ⌝ }
-    requires { ⌜ (sumOf (pathCounts (gridOf rows cols (now codes)) (now outlets)) ≤ length (now starts))
-        × (sumOf (pathCounts (gridOf rows cols (now codes)) (now outlets)) ≤ 2 ^ 24)
+    requires { ⌜ Searchable edition rows cols (now codes) (now outlets) (now subaccumulation) (now work) ⌝ }
+    requires { ⌜ (sumOf (pathCounts edition (gridOf rows cols (now codes)) (now outlets)) ≤ length (now starts))
+        × (sumOf (pathCounts edition (gridOf rows cols (now codes)) (now outlets)) ≤ 2 ^ 24)
         × (length (now outlets) ≤ length (now counts)) ⌝ }
-    ensures { λ _. ⌜ ListsAll (gridOf rows cols (now (codes .entry))) (now (outlets .entry)) (now (starts .entry))
+    ensures { λ _. ⌜ ListsAll edition (gridOf rows cols (now (codes .entry))) (now (outlets .entry)) (now (starts .entry))
         (now (counts .entry)) (now (work .entry)) (now (starts .exit)) (now (counts .exit)) (now (work .exit)) ⌝ }
 {
     let mut total: u32 = 0;
@@ -71,6 +83,7 @@ pub fn list_all(
     while j < outlets.len() {
         let from = index_of(total);
         let p = list_at(
+            edition,
             rows,
             cols,
             codes,

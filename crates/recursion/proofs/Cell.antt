@@ -7,21 +7,21 @@ use Prim.Native.Nat.{ℕ, suc, _+_, _*_, _≤_, _<_, _^_}
 use native.Mathlib.Omega.{arith}
 use lib.ListN.{length, getD}
 use lib.Arith.{digits-lt}
-use lib.Dec.{eqb}
 use Rattle.lengths.specs.declared.Length.{Length}
 use Rattle.lengths.specs.Rule.{counts}
-use Rattle.ground.specs.Compass.{dirs, squares}
+use Rattle.ground.specs.Compass.{Dir, dirs, squares}
 use Rattle.ground.specs.Grid.{Grid, gridOf}
 use Rattle.ground.specs.Accumulation.{subaccumulation}
-use Rattle.ground.specs.Forest.{forest}
+use Rattle.ground.specs.Forest.{Which}
 use Rattle.ground.proofs.Ground.{sub-size}
 use Rattle.moves.proofs.Spots.{size}
-use Rattle.search.specs.Search.{State, meetIf, Rule, tracingRule, visit}
+use Rattle.search.specs.Search.{State, tracingRule}
 use Rattle.search.specs.Neighbours.{cellsIn, turnTo, enter}
-use Rattle.search.proofs.Neighbours.{visit-is, cells-above, search-enters}
+use Rattle.search.proofs.Neighbours.{cells-above, search-enters}
 use Rattle.progress.specs.declared.Progress.{Progress}
-use Rattle.progress.specs.Starts.{kept, begun, startAt, startsOf, stateOf}
-use Rattle.upstream.specs.Ready.{Ready, OnGround}
+use Rattle.progress.specs.Starts.{kept, begun}
+use Rattle.notes.specs.Notes.{cellsHeld}
+use Rattle.upstream.specs.Ready.{Ready, OnGround, metIn}
 use Rattle.recursion.specs.Tracing.{VisitedAt, CellReady, InflowsReady, CellTraced, InflowsTraced, Traced}
 
 module _ {rows cols : ℕ} {codes outlets subaccumulations : List ℕ}
@@ -34,7 +34,7 @@ module _ {rows cols : ℕ} {codes outlets subaccumulations : List ℕ}
 
   -- the number of cells that the source reads
   pub cells-read : (row col : ℕ) → row < rows → col < cols
-      → getD subaccumulations (row * cols + col) 0 ≡ sub (row * cols + col)
+      → cellsHeld (getD subaccumulations (row * cols + col) 0) ≡ sub (row * cols + col)
   cells-read row col h k = ready .filled (row * cols + col) (digits-lt h k)
 
   module _ {row col : ℕ} {len : Length} {p : Progress} {old : List ℕ}
@@ -56,7 +56,7 @@ module _ {rows cols : ℕ} {codes outlets subaccumulations : List ℕ}
     above : suc (cellsIn g outlets dirs x) ≡ sub x
     above = cells-above g (ready .lent) (ready .agreed) outlets x (cell .solid)
 
-    module _ {q : Progress} {mid : List ℕ} (v : VisitedAt subaccumulations x len p old q mid) where
+    module _ {edition : ℕ} {q : Progress} {mid : List ℕ} (v : VisitedAt edition subaccumulations x len p old q mid) where
       visited-one : q .visited ≡ p .visited + 1
       visited-one = ap (λ (st : State squares). st .visited) (v .visited .state)
 
@@ -78,32 +78,18 @@ module _ {rows cols : ℕ} {codes outlets subaccumulations : List ℕ}
       }
 
       pub cell-traced : (dropping : Bool) (r : Progress) (new : List ℕ)
-          → InflowsTraced rows cols codes outlets dropping row col len 0 q mid r new
-          → CellTraced rows cols codes outlets dropping row col len p old r new
+          → InflowsTraced rows cols codes outlets (metIn edition subaccumulations) dropping row col len 0 q mid r new
+          → CellTraced rows cols codes outlets (metIn edition subaccumulations) dropping row col len p old r new
       unfolding enter
       cell-traced dropping r new t = record {
-        state = t .state ∙ ap (turnTo squares rule g outlets dirs x len) (v .visited .state
-            ∙ sym (seen ∙ ap (λ (m : ℕ). met m) (sym (cells-read row col (cell .row-in) (cell .col-in)))));
+        state = t .state ∙ ap (turnTo squares (tracingRule squares (metIn edition subaccumulations) dropping) g outlets
+            dirs x len) (v .visited .state);
         room = t .room;
         counted = record {
           cells-done = omega (arith, t .counted .cells-done, visited-one, dropped-none, above);
           few-paths = t .counted .few-paths;
         };
       }
-        where
-          rule : Rule squares
-          rule = tracingRule squares dropping
-
-          met : ℕ → State squares
-          met m = record {
-            starts = meetIf squares (eqb m 1) (startsOf p old 4096) (startAt len x);
-            visited = p .visited + 1;
-            dropped = p .dropped;
-          }
-
-          seen : visit squares rule (stateOf p old 4096) x len (forest g outlets x) ≡ met (sub x)
-          seen = visit-is squares dropping g outlets (ready .lent) (ready .agreed) (stateOf p old 4096) x len
-              (cell .solid)
 
   -- ---- the whole search
 
@@ -120,16 +106,16 @@ module _ {rows cols : ℕ} {codes outlets subaccumulations : List ℕ}
           (record { cells-fit = omega arith; steps-fit = omega arith; few-paths = omega arith });
     }
 
-    pub traced : (dropping : Bool) (old : List ℕ) (r : Progress) (new : List ℕ)
-        → CellTraced rows cols codes outlets dropping row col len p old r new
-        → Traced rows cols codes outlets dropping row col r new
+    pub traced : (met : Which Dir) (dropping : Bool) (old : List ℕ) (r : Progress) (new : List ℕ)
+        → CellTraced rows cols codes outlets met dropping row col len p old r new
+        → Traced rows cols codes outlets met dropping row col r new
     unfolding kept
-    traced dropping old r new t =
-        let c = subst (λ q. CellTraced rows cols codes outlets dropping row col (counts 0 0) q old r new) nothing
-        (subst (λ l. CellTraced rows cols codes outlets dropping row col l p old r new) no-step t) in
+    traced met dropping old r new t =
+        let c = subst (λ q. CellTraced rows cols codes outlets met dropping row col (counts 0 0) q old r new) nothing
+        (subst (λ l. CellTraced rows cols codes outlets met dropping row col l p old r new) no-step t) in
         record {
           searched = record {
-            state = c .state ∙ sym (search-enters squares (tracingRule squares dropping) g outlets (ready .lent)
+            state = c .state ∙ sym (search-enters squares (tracingRule squares met dropping) g outlets (ready .lent)
                 (ready .agreed) (row * cols + col) (at .solid));
             all-cells = omega (arith, c .counted .cells-done);
             few-paths = c .counted .few-paths;

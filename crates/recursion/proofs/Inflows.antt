@@ -15,6 +15,7 @@ use Rattle.lengths.specs.Lengths.{squareCells, farthest}
 use Rattle.ground.specs.Compass.{Dir, dirs, opposite, stepOf, squares}
 use Rattle.ground.specs.Grid.{Grid, gridOf, ground}
 use Rattle.ground.specs.Accumulation.{subaccumulation}
+use Rattle.ground.specs.Forest.{Which}
 use Rattle.ground.proofs.Ground.{sub-size}
 use Rattle.moves.specs.Moves.{dirAt}
 use Rattle.search.specs.Search.{State, Rule, tracingRule, drops, dropCells}
@@ -31,6 +32,7 @@ use Rattle.search.proofs.Neighbours.{
 }
 use Rattle.progress.specs.declared.Progress.{Progress}
 use Rattle.progress.specs.Starts.{isBelow, startsOf, stateOf}
+use Rattle.notes.specs.Notes.{cellsHeld}
 use Rattle.upstream.specs.Ready.{Ready, dropsAt}
 use Rattle.upstream.proofs.Entering.{one-step, drops-by}
 use Rattle.recursion.specs.declared.Turn.{Turn}
@@ -82,7 +84,7 @@ module _ (rule : Rule squares) (g : Grid) (outlets : List ℕ) (x : ℕ) (len : 
       (λ i a b. rw (is-g, is-x) (next .skipped i a (omega arith))))
 
 module _ {rows cols : ℕ} {codes outlets subaccumulations : List ℕ}
-    (ready : Ready rows cols codes outlets subaccumulations) (dropping : Bool)
+    (ready : Ready rows cols codes outlets subaccumulations) (met : Which Dir) (dropping : Bool)
     {row col : ℕ} {len : Length} {k : ℕ} {p : Progress} {old : List ℕ}
     (inflows : InflowsReady rows cols codes outlets row col len k p old) {t : Turn}
     (next : NextTurn rows cols codes outlets subaccumulations row col k t) where
@@ -90,7 +92,7 @@ module _ {rows cols : ℕ} {codes outlets subaccumulations : List ℕ}
   g = gridOf rows cols codes
 
   abbrev rule : Rule squares
-  rule = tracingRule squares dropping
+  rule = tracingRule squares met dropping
 
   abbrev sub : ℕ → ℕ
   sub z = subaccumulation g outlets z
@@ -107,7 +109,7 @@ module _ {rows cols : ℕ} {codes outlets subaccumulations : List ℕ}
   turned = to-turn rule g outlets x len st next refl refl
 
   -- none is left
-  pub inflows-done : 8 ≤ t .k → InflowsTraced rows cols codes outlets dropping row col len k p old p old
+  pub inflows-done : 8 ≤ t .k → InflowsTraced rows cols codes outlets met dropping row col len k p old p old
   unfolding cellsIn
   inflows-done h = let e : t .k ≡ 8 = omega (arith, next .last) in record {
     state = sym (turned .0 ∙ ap (λ (j : ℕ). turnTo squares rule g outlets (drop j dirs) x len st) e
@@ -139,7 +141,7 @@ module _ {rows cols : ℕ} {codes outlets subaccumulations : List ℕ}
     inside = digits-lt (next .row-in h) (next .col-in h)
 
     -- its cells and its step, as the source has them
-    pub cells-lent : t .cells ≡ getD subaccumulations y 0
+    pub cells-lent : t .cells ≡ cellsHeld (getD subaccumulations y 0)
     cells-lent = ap (λ (u : Turn). u .cells) (next .is-turn h)
 
     pub cells-are : t .cells ≡ sub y
@@ -206,8 +208,8 @@ module _ {rows cols : ℕ} {codes outlets subaccumulations : List ℕ}
       }
 
       pub drop-traced : b ≡ true → (r : Progress) (new : List ℕ)
-          → InflowsTraced rows cols codes outlets dropping row col len (t .k + 1) less old r new
-          → InflowsTraced rows cols codes outlets dropping row col len k p old r new
+          → InflowsTraced rows cols codes outlets met dropping row col len (t .k + 1) less old r new
+          → InflowsTraced rows cols codes outlets met dropping row col len k p old r new
       drop-traced e r new i = record {
         state = i .state ∙ sym (opened ∙ turn-drops squares rule g outlets x (dirAt (t .k)) (drop (t .k + 1) dirs)
             len st (ready .lent) (ready .agreed) y found (sym test ∙ e)
@@ -236,7 +238,7 @@ module _ {rows cols : ℕ} {codes outlets subaccumulations : List ℕ}
         }
 
         module _ {q : Progress} {mid : List ℕ}
-            (c : CellTraced rows cols codes outlets dropping (t .row) (t .col) own p old q mid) where
+            (c : CellTraced rows cols codes outlets met dropping (t .row) (t .col) own p old q mid) where
           pub rest-ready : InflowsReady rows cols codes outlets row col len (t .k + 1) q mid
           rest-ready = let u = inflows .bounded in record {
             room = c .room;
@@ -252,8 +254,8 @@ module _ {rows cols : ℕ} {codes outlets subaccumulations : List ℕ}
           }
 
           pub rest-traced : (r : Progress) (new : List ℕ)
-              → InflowsTraced rows cols codes outlets dropping row col len (t .k + 1) q mid r new
-              → InflowsTraced rows cols codes outlets dropping row col len k p old r new
+              → InflowsTraced rows cols codes outlets met dropping row col len (t .k + 1) q mid r new
+              → InflowsTraced rows cols codes outlets met dropping row col len k p old r new
           rest-traced r new i = record {
             state = i .state ∙ ap (turnTo squares rule g outlets (drop (t .k + 1) dirs) x len) (c .state
                 ∙ ap (λ (l : Length). enter squares rule g outlets y l st) (is-own ∙ step-is))

@@ -6,15 +6,16 @@ use mathlib.Core.List.{List}
 use mathlib.Core.Option.{none, some}
 use Prim.Native.Nat.{ℕ, _+_, _*_, _≤_, _<_}
 use lib.ListN.{length, getD, drop}
-use lib.Dec.{eqb}
 use Rattle.lengths.specs.declared.Length.{Length}
-use Rattle.ground.specs.Compass.{dirs, opposite, stepOf, squares}
+use Rattle.ground.specs.Compass.{Dir, dirs, opposite, stepOf, squares}
 use Rattle.ground.specs.Grid.{gridOf, ground}
 use Rattle.ground.specs.Accumulation.{subaccumulation}
+use Rattle.ground.specs.Forest.{Which}
 use Rattle.moves.specs.Lent.{OnCell}
 use Rattle.moves.specs.Moves.{dirAt}
 use Rattle.search.specs.Search.{State, tracingRule}
 use Rattle.search.specs.Neighbours.{inflowIn, cellsIn, turnTo, enter}
+use Rattle.notes.specs.Notes.{cellsHeld, metBy}
 use Rattle.progress.specs.declared.Progress.{Progress}
 use Rattle.progress.specs.Starts.{stateOf, Visited}
 use Rattle.upstream.specs.Ready.{Searched}
@@ -26,7 +27,7 @@ turnAt cols subaccumulations k row col = record {
   k = k;
   row = row;
   col = col;
-  cells = getD subaccumulations (row * cols + col) 0;
+  cells = cellsHeld (getD subaccumulations (row * cols + col) 0);
   step = stepOf (opposite (dirAt k));
 }
 
@@ -48,10 +49,10 @@ pub record NextTurn (rows cols : ℕ) (codes outlets subaccumulations : List ℕ
   pub col-in : r .k < 8 → r .col < cols
   pub is-turn : r .k < 8 → r ≡ turnAt cols subaccumulations (r .k) (r .row) (r .col)
 
--- a cell was visited; a headwater, of one cell, has met its length
-pub record VisitedAt (subaccumulations : List ℕ) (x : ℕ) (len : Length) (p : Progress) (old : List ℕ) (r : Progress)
-    (new : List ℕ) : Type 0 where
-  pub visited : Visited old new 4096 x (eqb (getD subaccumulations x 0) 1) len p r
+-- a cell was visited, and its length met if its word says so by the edition
+pub record VisitedAt (edition : ℕ) (subaccumulations : List ℕ) (x : ℕ) (len : Length) (p : Progress) (old : List ℕ)
+    (r : Progress) (new : List ℕ) : Type 0 where
+  pub visited : Visited old new 4096 x (metBy edition (getD subaccumulations x 0)) len p r
   pub room : length new ≡ length old
 
 -- the search has this many cells to go at most, of the 4,096 for which there is room; lengths are no more than cells
@@ -85,25 +86,25 @@ pub record Counted (cells : ℕ) (p r : Progress) : Type 0 where
   pub few-paths : r .paths ≤ r .visited
 
 -- a cell was entered
-pub record CellTraced (rows cols : ℕ) (codes outlets : List ℕ) (dropping : Bool) (row col : ℕ) (len : Length)
-    (p : Progress) (old : List ℕ) (r : Progress) (new : List ℕ) : Type 0 where
+pub record CellTraced (rows cols : ℕ) (codes outlets : List ℕ) (met : Which Dir) (dropping : Bool) (row col : ℕ)
+    (len : Length) (p : Progress) (old : List ℕ) (r : Progress) (new : List ℕ) : Type 0 where
   pub state : _≡_ {A = State squares} (stateOf r new 4096)
-      (enter squares (tracingRule squares dropping) (gridOf rows cols codes) outlets (row * cols + col) len
+      (enter squares (tracingRule squares met dropping) (gridOf rows cols codes) outlets (row * cols + col) len
       (stateOf p old 4096))
   pub room : length new ≡ 4096
   pub counted : Counted (subaccumulation (gridOf rows cols codes) outlets (row * cols + col)) p r
 
 -- the neighbours from k on were turned to
-pub record InflowsTraced (rows cols : ℕ) (codes outlets : List ℕ) (dropping : Bool) (row col : ℕ) (len : Length)
-    (k : ℕ) (p : Progress) (old : List ℕ) (r : Progress) (new : List ℕ) : Type 0 where
+pub record InflowsTraced (rows cols : ℕ) (codes outlets : List ℕ) (met : Which Dir) (dropping : Bool) (row col : ℕ)
+    (len : Length) (k : ℕ) (p : Progress) (old : List ℕ) (r : Progress) (new : List ℕ) : Type 0 where
   pub state : _≡_ {A = State squares} (stateOf r new 4096)
-      (turnTo squares (tracingRule squares dropping) (gridOf rows cols codes) outlets (drop k dirs) (row * cols + col)
+      (turnTo squares (tracingRule squares met dropping) (gridOf rows cols codes) outlets (drop k dirs) (row * cols + col)
       len (stateOf p old 4096))
   pub room : length new ≡ 4096
   pub counted : Counted (cellsIn (gridOf rows cols codes) outlets (drop k dirs) (row * cols + col)) p r
 
 -- the whole search, with the starts before the end of the array
-pub record Traced (rows cols : ℕ) (codes outlets : List ℕ) (dropping : Bool) (row col : ℕ) (r : Progress)
-    (new : List ℕ) : Type 0 where
-  pub searched : Searched (gridOf rows cols codes) outlets dropping (row * cols + col) 4096 r new
+pub record Traced (rows cols : ℕ) (codes outlets : List ℕ) (met : Which Dir) (dropping : Bool) (row col : ℕ)
+    (r : Progress) (new : List ℕ) : Type 0 where
+  pub searched : Searched (gridOf rows cols codes) outlets met dropping (row * cols + col) 4096 r new
   pub room : length new ≡ 4096

@@ -2,6 +2,8 @@
 use lengths::Length;
 use lengths::Step;
 use moves::Spot;
+use notes::cells_held;
+use notes::is_met;
 use progress::Progress;
 use progress::begin;
 use progress::drop_cells;
@@ -12,7 +14,7 @@ use upstream::tributary_from;
 ghost use mathlib.Core.Path.{_≡_};
 ghost use Prim.Native.Nat.{_+_, _*_, _≤_, _<_, _^_};
 ghost use lib.ListN.{length};
-ghost use Rattle.upstream.specs.Ready.{Ready, OnGround, cellsAt};
+ghost use Rattle.upstream.specs.Ready.{Ready, OnGround, cellsAt, metIn};
 ghost use Rattle.recursion.specs.Tracing.{turnAt, TurnReady, NextTurn, VisitedAt, Traced};
 ghost use Rattle.recursion.specs.Tracing.{CellReady, InflowsReady, CellTraced, InflowsTraced};
 
@@ -35,7 +37,7 @@ fn turn_at(cols: usize, subaccumulation: &[u32], k: usize, row: usize, col: usiz
         k,
         row,
         col,
-        cells: subaccumulation[row * cols + col],
+        cells: cells_held(subaccumulation[row * cols + col]),
         step: step_at(k),
     }
 }
@@ -80,10 +82,11 @@ fn next_turn(
     }
 }
 
-// A cell is visited at its length; a headwater meets it.
+// A cell is visited at its length, which is met if the cell's word says so by the edition.
 fn visit_at(
     cols: usize,
     subaccumulation: &[u32],
+    edition: u32,
     row: usize,
     col: usize,
     len: Length,
@@ -92,12 +95,12 @@ fn visit_at(
 ) -> Progress
     requires { ⌜ (row * cols + col < length (now subaccumulation)) × (row * cols + col < 2 ^ 24) ⌝ }
     requires { ⌜ (p .paths < 4096) × (p .visited < 4096) ⌝ }
-    ensures { λ r. ⌜ VisitedAt (now (subaccumulation .entry)) (row * cols + col) len p (now (found .entry)) r
-        (now (found .exit)) ⌝ }
+    ensures { λ r. ⌜ VisitedAt edition (now (subaccumulation .entry)) (row * cols + col) len p
+        (now (found .entry)) r (now (found .exit)) ⌝ }
 {
     let at = row * cols + col;
-    let n = subaccumulation[at];
-    visit(found, 4096, at as u32, n == 1, len, p)
+    let met = is_met(edition, subaccumulation[at]);
+    visit(found, 4096, at as u32, met, len, p)
 }
 
 // A cell is visited, then its inflows.
@@ -107,6 +110,7 @@ fn trace_cell(
     codes: &[u8],
     outlets: &[u32],
     subaccumulation: &[u32],
+    edition: u32,
     dropping: bool,
     row: usize,
     col: usize,
@@ -116,16 +120,18 @@ fn trace_cell(
 ) -> Progress
     requires { ⌜ Ready rows cols (now codes) (now outlets) (now subaccumulation) ⌝ }
     requires { ⌜ CellReady rows cols (now codes) (now outlets) row col len p (now found) ⌝ }
-    ensures { λ r. ⌜ CellTraced rows cols (now (codes .entry)) (now (outlets .entry)) dropping row col len p
+    ensures { λ r. ⌜ CellTraced rows cols (now (codes .entry)) (now (outlets .entry))
+        (metIn edition (now (subaccumulation .entry))) dropping row col len p
         (now (found .entry)) r (now (found .exit)) ⌝ }
 {
-    let q = visit_at(cols, subaccumulation, row, col, len, p, found);
+    let q = visit_at(cols, subaccumulation, edition, row, col, len, p, found);
     trace_inflows(
         rows,
         cols,
         codes,
         outlets,
         subaccumulation,
+        edition,
         dropping,
         row,
         col,
@@ -143,6 +149,7 @@ fn trace_inflows(
     codes: &[u8],
     outlets: &[u32],
     subaccumulation: &[u32],
+    edition: u32,
     dropping: bool,
     row: usize,
     col: usize,
@@ -153,7 +160,8 @@ fn trace_inflows(
 ) -> Progress
     requires { ⌜ Ready rows cols (now codes) (now outlets) (now subaccumulation) ⌝ }
     requires { ⌜ InflowsReady rows cols (now codes) (now outlets) row col len k p (now found) ⌝ }
-    ensures { λ r. ⌜ InflowsTraced rows cols (now (codes .entry)) (now (outlets .entry)) dropping row col len k p
+    ensures { λ r. ⌜ InflowsTraced rows cols (now (codes .entry)) (now (outlets .entry))
+        (metIn edition (now (subaccumulation .entry))) dropping row col len k p
         (now (found .entry)) r (now (found .exit)) ⌝ }
 {
     let t = next_turn(rows, cols, codes, outlets, subaccumulation, row, col, k);
@@ -171,6 +179,7 @@ fn trace_inflows(
             codes,
             outlets,
             subaccumulation,
+            edition,
             dropping,
             row,
             col,
@@ -186,6 +195,7 @@ fn trace_inflows(
         codes,
         outlets,
         subaccumulation,
+        edition,
         dropping,
         t.row,
         t.col,
@@ -199,6 +209,7 @@ fn trace_inflows(
         codes,
         outlets,
         subaccumulation,
+        edition,
         dropping,
         row,
         col,
@@ -218,6 +229,7 @@ pub fn trace(
     codes: &[u8],
     outlets: &[u32],
     subaccumulation: &[u32],
+    edition: u32,
     dropping: bool,
     row: usize,
     col: usize,
@@ -226,17 +238,28 @@ pub fn trace(
     requires { ⌜ Ready rows cols (now codes) (now outlets) (now subaccumulation) ⌝ }
     requires { ⌜ OnGround rows cols (now codes) row col ⌝ }
     requires { ⌜ (cellsAt rows cols (now codes) (now outlets) row col ≤ 4096) × (length (now found) ≡ 4096) ⌝ }
-    ensures { λ r. ⌜ Traced rows cols (now (codes .entry)) (now (outlets .entry)) dropping row col r
+    ensures { λ r. ⌜ Traced rows cols (now (codes .entry)) (now (outlets .entry))
+        (metIn edition (now (subaccumulation .entry))) dropping row col r
         (now (found .exit)) ⌝ }
 {
     let none = Length::none();
-    let p = visit_at(cols, subaccumulation, row, col, none, begin(), found);
+    let p = visit_at(
+        cols,
+        subaccumulation,
+        edition,
+        row,
+        col,
+        none,
+        begin(),
+        found,
+    );
     trace_inflows(
         rows,
         cols,
         codes,
         outlets,
         subaccumulation,
+        edition,
         dropping,
         row,
         col,

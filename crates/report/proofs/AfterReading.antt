@@ -22,7 +22,7 @@ use Rattle.ground.specs.Tables.{table1, isCode}
 use Rattle.search.specs.Tracing.{pathCount, numbersEach}
 use Rattle.search.proofs.Demand3.{demand3}
 use Rattle.answers.specs.Checks.{Check, allPass, check10, check11, check12, check13, check14, check15, check16, check17}
-use Rattle.answers.specs.Checks.{check18, check20, check21}
+use Rattle.answers.specs.Checks.{check18, check20, check21, check25}
 use Rattle.answers.specs.Entries.{Catchment, gridChecks, accumulateNumber, accumulateLeaves}
 use Rattle.answers.specs.Tracings.{chosen, chosenCells, chosenTracing, stackNumber}
 use Rattle.answers.proofs.FirstFailed.{all-at, FailsOnly, fails-only}
@@ -148,7 +148,7 @@ module _ (s : Content) (w : Spellable s) where
             arith,
             few v,
             lent-places,
-            demand3 g (c .accumulation) agreed (s .outlets) o (member-at (s .outlets) place h) v true .few,
+            demand3 g (c .accumulation) agreed (s .outlets) o (member-at (s .outlets) place h) v 1 true .few,
           ))
 
       -- 14, 18, 20 and 21 pass
@@ -175,11 +175,14 @@ module _ (s : Content) (w : Spellable s) where
       )
 
       place-among : In (numberAt c place) numbers
-      unfolding stackNumber
+      unfolding stackNumber check25
       place-among =
           let lent = length (c .accumulation) ∷ length (zeros 4096) ∷ [] in
-          fails-only numbers (inl refl) (gridChecks g lent ++ later) (grid-passes lent later
-          (omega (arith, accumulation-places), (omega (arith, lent-places), tt)) later-passes)
+          fails-only numbers (inl refl) (check25 1 ∷ (gridChecks g lent ++ later)) (
+            inl refl,
+            λ p25. grid-passes lent later (omega (arith, accumulation-places), (omega (arith, lent-places), tt))
+                later-passes,
+          )
 
     places-among : (place n : ℕ) → place + n ≤ length (s .outlets) → Every (λ k. In k numbers) (numbersFrom c place n)
     unfolding numbersFrom

@@ -11,7 +11,7 @@ use Rattle.ground.specs.Accumulation.{balance, agrees, subaccumulation}
 use Rattle.ground.specs.Forest.{forest}
 use Rattle.search.specs.Tracing.{tracingBy}
 use Rattle.answers.specs.Checks.{firstFailed, check10, check11, check12, check13, check14, check15, check16, check17}
-use Rattle.answers.specs.Checks.{check18, check20, check21}
+use Rattle.answers.specs.Checks.{check18, check20, check21, check25}
 use Rattle.answers.specs.Entries.{accumulateNumber, accumulateLeaves}
 use Rattle.answers.specs.Answers.{tracedWith}
 use Rattle.answers.specs.Tracings.{stackNumber, leavesSubaccumulation, leavesStarts}
@@ -26,7 +26,7 @@ use Rattle.report.specs.Example.{exampleText}
 pub example : deskText sample ≡ exampleText
 unfolding sumOf overlaid compared ruled signOf isShorter dirOf codeAt neighbour next inflowRecord inflows ringFree
     balance agrees subaccumulation forest tracingBy firstFailed isCode check10 check11 check12 check13 check14 check15
-    check16 check17 check18 check20 check21 accumulateNumber accumulateLeaves tracedWith stackNumber
+    check16 check17 check18 check20 check21 check25 accumulateNumber accumulateLeaves tracedWith stackNumber
     leavesSubaccumulation leavesStarts digits catchmentLine outletLine pathLine numberAt isRecord codesFrom outletCount
     outletsFrom tailChecks rowsChecks readNumber readAnswer readLeavesCodes readLeavesOutlets firstNumber tracedAt leftAt
     pathLines answerLines outletLines outletsLines numbersFrom tracingNumber sheetNumber sheetText deskText

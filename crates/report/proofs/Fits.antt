@@ -20,11 +20,11 @@ use Rattle.ground.specs.Grid.{Grid, cellCount, ground}
 use Rattle.ground.specs.Accumulation.{subaccumulation}
 use Rattle.ground.proofs.AllOutlets.{outlets-cells, inside-bounded}
 use Rattle.search.specs.Tracing.{Tracing, pathCount, startCells}
-use Rattle.answers.specs.Checks.{check10, check11, check12, check14, check15, check16, check17, check18}
+use Rattle.answers.specs.Checks.{check10, check11, check12, check14, check15, check16, check17, check18, check25}
 use Rattle.answers.specs.Entries.{Catchment, accumulateNumber}
 use Rattle.answers.specs.Answers.{tracedWith}
 use Rattle.answers.specs.Tracings.{chosen, chosenTracing, callChecks, stackNumber, leavesStarts}
-use Rattle.answers.proofs.FirstFailed.{all-every, all-at, passesOf, passed}
+use Rattle.answers.proofs.FirstFailed.{all-every, all-at, passesOf, passed, passed-others}
 use Rattle.answers.proofs.Accepted.{Promise, stack-reached}
 use Rattle.lines.specs.declared.OutletLine.{OutletLine}
 use Rattle.lines.specs.Line.{catchmentLine, outletLine, pathLine, refusedLine}
@@ -102,15 +102,15 @@ module _ (s : Content) (w : Spellable s) (free : accumulateNumber (sheetGrid s) 
         (omega (arith, promise .number, stack-reached (callAt c place) startedLent startedWork .enough e)))
 
     passes : (k : ℕ) → passesOf k (callChecks (callAt c place) (zeros 4096)) ≡ true
-    unfolding stackNumber check10 check11 check12 check14 check15 check16 check17 check18
-    passes = passed 18 0 (callChecks (callAt c place) (zeros 4096)) _ refl (inl (omega arith)) e
+    unfolding stackNumber check10 check11 check12 check14 check15 check16 check17 check18 check25
+    passes = passed-others 0 (callChecks (callAt c place) (zeros 4096)) _ refl e
 
     inside : place < length (s .outlets)
-    unfolding check10 check11 check12 check14 check15 check16 check17 check18
+    unfolding check10 check11 check12 check14 check15 check16 check17 check18 check25
     inside = ltb-true place (length (s .outlets)) (passes 18)
 
     placed : (ltb (chosen (callAt c place)) (cellCount g) ≡ true) × (ground g (chosen (callAt c place)) ≡ true)
-    unfolding check10 check11 check12 check14 check15 check16 check17 check18
+    unfolding check10 check11 check12 check14 check15 check16 check17 check18 check25
     placed = and-both (ltb (chosen (callAt c place)) (cellCount g)) (ground g (chosen (callAt c place)))
         (all-at (λ o. ltb o (cellCount g) && ground g o) (s .outlets) (passes 16) place inside)
 
@@ -151,7 +151,7 @@ module _ (s : Content) (w : Spellable s) (free : accumulateNumber (sheetGrid s) 
 
   -- the outlets are different cells of the grid
   all-fit : tracingNumber c ≡ 0 → length (outletsLines c 0 (length (s .outlets))) ≤ 139 * 256 + 11 * 4096
-  unfolding tracingNumber check10 check11 check12 check14 check15 check16 check17 check18
+  unfolding tracingNumber check10 check11 check12 check14 check15 check16 check17 check18 check25
   all-fit z =
       let p = first-0 (numberAt c 0) (numbersFrom c 0 (length (s .outlets))) z in
       let q = passes 0 (p .0) in

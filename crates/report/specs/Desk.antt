@@ -24,7 +24,8 @@ unfoldable pub firstNumber : List ℕ → ℕ
 firstNumber [] = 0
 firstNumber (n ∷ ns) = cond (eqb n 0) (firstNumber ns) n
 
--- ---- an outlet of a sheet: "traces by stack with dropping", in arrays that are "each started at zero"
+-- ---- an outlet of a sheet: "traces by stack with dropping", in arrays that are "each started at zero"; 02, U7: by
+-- edition 1
 
 abbrev pub startedLent : Lent
 startedLent = lent (zeros 4096) (zeros 4096)
@@ -34,7 +35,7 @@ startedWork = zeros (numbersEach * 4096)
 
 module _ (c : Catchment) (place : ℕ) where
   abbrev pub callAt : Call
-  callAt = record { catchment = c; place = place; dropping = true }
+  callAt = record { edition = 1; catchment = c; place = place; dropping = true }
 
   -- the number that tracing answers
   abbrev pub numberAt : ℕ

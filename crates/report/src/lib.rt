@@ -57,6 +57,7 @@ fn number_at(
     let mut starts = [0u32; 4096];
     let mut work = [0u32; WORKING];
     let t = trace_by_stack(
+        1,
         rows,
         cols,
         codes,
@@ -212,6 +213,7 @@ fn put_outlet_at(
     let mut starts = [0u32; 4096];
     let mut work = [0u32; WORKING];
     let t = trace_by_stack(
+        1,
         rows,
         index_of(cols),
         codes,

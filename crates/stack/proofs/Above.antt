@@ -14,6 +14,7 @@ use Rattle.lengths.specs.Rule.{plusStep}
 use Rattle.ground.specs.Compass.{Dir, opposite, stepOf, squares}
 use Rattle.ground.specs.Grid.{Grid, ground}
 use Rattle.ground.specs.Accumulation.{agrees, subaccumulation}
+use Rattle.ground.specs.Forest.{Which}
 use Rattle.ground.proofs.Cells.{ground-within}
 use Rattle.ground.proofs.Ground.{sub-size}
 use Rattle.search.specs.Search.{State, tracingRule, dropCells}
@@ -40,23 +41,23 @@ module _ (g : Grid) (outlets : List ℕ) where
   all-append end [] ys a b = b
   all-append end (x ∷ xs) ys a b = (a .0, all-append end xs ys (a .1) b)
 
-  module _ (dropping : Bool) where
-    pub drain-append : (xs ys : List Pending) (st : State squares) → drain g outlets dropping (xs ++ ys) st
-        ≡ drain g outlets dropping ys (drain g outlets dropping xs st)
+  module _ (met : Which Dir) (dropping : Bool) where
+    pub drain-append : (xs ys : List Pending) (st : State squares) → drain g outlets met dropping (xs ++ ys) st
+        ≡ drain g outlets met dropping ys (drain g outlets met dropping xs st)
     unfolding drain
     drain-append [] ys st = refl
-    drain-append (x ∷ xs) ys st = drain-append xs ys (taken g outlets dropping (cellOf g x) (x .len) st)
+    drain-append (x ∷ xs) ys st = drain-append xs ys (taken g outlets met dropping (cellOf g x) (x .len) st)
 
     module _ (y : ℕ) (len : Length) (st : State squares) where
       abbrev test : Bool
       test = dropsAt dropping (st .starts) len (sub y)
 
-      pub taken-drops : test ≡ true → taken g outlets dropping y len st ≡ dropCells squares st (sub y)
+      pub taken-drops : test ≡ true → taken g outlets met dropping y len st ≡ dropCells squares st (sub y)
       unfolding taken
       taken-drops e = rw (e, taken)
 
-      pub taken-enters : test ≡ false → taken g outlets dropping y len st
-          ≡ enter squares (tracingRule squares dropping) g outlets y len st
+      pub taken-enters : test ≡ false → taken g outlets met dropping y len st
+          ≡ enter squares (tracingRule squares met dropping) g outlets y len st
       unfolding taken
       taken-enters e = rw (e, taken)
 
@@ -77,9 +78,9 @@ module _ (g : Grid) (outlets : List ℕ) where
 
       -- what the search makes of some neighbours, their cells, and that they wait
       pub record Follows (ds : List Dir) : Type 0 where
-        pub drains : (dropping : Bool) (st : State squares)
-            → turnTo squares (tracingRule squares dropping) g outlets ds x len st
-            ≡ drain g outlets dropping (above ds) st
+        pub drains : (met : Which Dir) (dropping : Bool) (st : State squares)
+            → turnTo squares (tracingRule squares met dropping) g outlets ds x len st
+            ≡ drain g outlets met dropping (above ds) st
         pub cells : cellsPending g outlets (above ds) ≡ cellsIn g outlets ds x
         pub all-wait : (end : ℕ) → 3 * (len .straight + len .diagonal + 1 + cellsIn g outlets ds x) ≤ end
             → Every (Waits g outlets end) (above ds)
@@ -93,20 +94,20 @@ module _ (g : Grid) (outlets : List ℕ) where
         abbrev own : Length
         own = plusStep len (stepOf (opposite d))
 
-        turned : (dropping : Bool) (ds : List Dir) (st : State squares)
-            → turnTo squares (tracingRule squares dropping) g outlets (d ∷ ds) x len st
-            ≡ turnTo squares (tracingRule squares dropping) g outlets ds x len (taken g outlets dropping y own st)
-        turned dropping ds st = by-test (test dropping y own st) refl
+        turned : (met : Which Dir) (dropping : Bool) (ds : List Dir) (st : State squares)
+            → turnTo squares (tracingRule squares met dropping) g outlets (d ∷ ds) x len st
+            ≡ turnTo squares (tracingRule squares met dropping) g outlets ds x len (taken g outlets met dropping y own st)
+        turned met dropping ds st = by-test (test met dropping y own st) refl
           where
-            by-test : (b : Bool) → test dropping y own st ≡ b
-                → turnTo squares (tracingRule squares dropping) g outlets (d ∷ ds) x len st
-                ≡ turnTo squares (tracingRule squares dropping) g outlets ds x len (taken g outlets dropping y own st)
-            by-test true e = turn-drops squares (tracingRule squares dropping) g outlets x d ds len st a agreed y f e
-                ∙ ap (turnTo squares (tracingRule squares dropping) g outlets ds x len)
-                (sym (taken-drops dropping y own st e))
-            by-test false e = turn-enters squares (tracingRule squares dropping) g outlets x d ds len st a agreed y f e
-                ∙ ap (turnTo squares (tracingRule squares dropping) g outlets ds x len)
-                (sym (taken-enters dropping y own st e))
+            by-test : (b : Bool) → test met dropping y own st ≡ b
+                → turnTo squares (tracingRule squares met dropping) g outlets (d ∷ ds) x len st
+                ≡ turnTo squares (tracingRule squares met dropping) g outlets ds x len (taken g outlets met dropping y own st)
+            by-test true e = turn-drops squares (tracingRule squares met dropping) g outlets x d ds len st a agreed y f e
+                ∙ ap (turnTo squares (tracingRule squares met dropping) g outlets ds x len)
+                (sym (taken-drops met dropping y own st e))
+            by-test false e = turn-enters squares (tracingRule squares met dropping) g outlets x d ds len st a agreed y f e
+                ∙ ap (turnTo squares (tracingRule squares met dropping) g outlets ds x len)
+                (sym (taken-enters met dropping y own st e))
 
         cell-is : cellOf g (pendingOf (g .cols) own y) ≡ y
         cell-is = div-add-mod' y (g .cols)
@@ -130,7 +131,7 @@ module _ (g : Grid) (outlets : List ℕ) where
       pub follows : (ds : List Dir) → Follows ds
       unfolding inflowsAbove cellsPending cellsIn drain
       follows [] = record {
-        drains = λ dropping st. turn-done squares (tracingRule squares dropping) g outlets x len st;
+        drains = λ met dropping st. turn-done squares (tracingRule squares met dropping) g outlets x len st;
         cells = refl;
         all-wait = λ end h. tt;
       }
@@ -138,8 +139,8 @@ module _ (g : Grid) (outlets : List ℕ) where
         where
           by-place : (o : Option ℕ) → inflowIn g outlets x d ≡ o → Follows ds → Follows (d ∷ ds)
           by-place none e ih = record {
-            drains = λ dropping st. turn-none squares (tracingRule squares dropping) g outlets x d ds len st e
-                ∙ ih .drains dropping st ∙ rw e;
+            drains = λ met dropping st. turn-none squares (tracingRule squares met dropping) g outlets x d ds len st e
+                ∙ ih .drains met dropping st ∙ rw e;
             cells = rw e (omega (arith, ih .cells));
             all-wait = λ end h. rw e (ih .all-wait end (omega (arith, rw e at h)));
           }
@@ -148,9 +149,9 @@ module _ (g : Grid) (outlets : List ℕ) where
               let l = plusStep len (stepOf (opposite d)) in
               let c : sub (cellOf g (pendingOf (g .cols) l y)) ≡ sub y = ap sub (cell-is d y f) in
               record {
-                drains = λ dropping st. turned d y f dropping ds st
-                    ∙ ih .drains dropping (taken g outlets dropping y l st)
-                    ∙ rw e (ap (λ (z : ℕ). drain g outlets dropping (above ds) (taken g outlets dropping z l st))
+                drains = λ met dropping st. turned d y f met dropping ds st
+                    ∙ ih .drains met dropping (taken g outlets met dropping y l st)
+                    ∙ rw e (ap (λ (z : ℕ). drain g outlets met dropping (above ds) (taken g outlets met dropping z l st))
                     (sym (cell-is d y f)));
                 cells = rw e (omega (arith, ih .cells, c));
                 all-wait = λ end h. rw e (

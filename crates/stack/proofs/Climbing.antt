@@ -21,6 +21,7 @@ use Rattle.search.specs.Neighbours.{inflowIn, cellsOf, cellsIn}
 use Rattle.search.proofs.Neighbours.{cells-above}
 use Rattle.moves.specs.Lent.{OnCell}
 use Rattle.moves.proofs.Spots.{size}
+use Rattle.notes.specs.Notes.{cellsHeld}
 use Rattle.upstream.specs.Ready.{Ready, OnGround}
 use Rattle.stack.specs.declared.Pending.{Pending}
 use Rattle.stack.specs.Pending.{onTop, inflowsAbove}
@@ -52,7 +53,7 @@ module _ {rows cols : ℕ} {codes outlets subaccumulations : List ℕ}
     ready .has-subaccumulations,
   )
 
-  pub read : getD subaccumulations x 0 ≡ sub x
+  pub read : cellsHeld (getD subaccumulations x 0) ≡ sub x
   read = ready .filled x (indexed .0)
 
   pub small-cells : sub x ≤ 16777216
@@ -102,32 +103,32 @@ module _ {rows cols : ℕ} {codes outlets subaccumulations : List ℕ}
   abbrev value : Dir → ℕ
   value d = inflowValue g subaccumulations d (neighbour g x d)
 
-  -- a direction in which no outlet flows in, and one in which an outlet does
+  -- a direction in which no outlet flows in, and one in which an outlet does. A word is no less than the cells it holds
   side : (d : Dir)
-      → ((inflowIn g [] x d ≡ inflowIn g outlets x d) × (value d ≡ cellsOf g outlets (inflowIn g outlets x d)))
+      → ((inflowIn g [] x d ≡ inflowIn g outlets x d) × (cellsOf g outlets (inflowIn g outlets x d) ≤ value d))
       ⊎ ((cellsOf g outlets (inflowIn g outlets x d) ≡ 0) × (1 ≤ value d))
   unfolding inflowIn
   side d = by-place (neighbour g x d) refl
     where
       Side : Type 0
-      Side = ((inflowIn g [] x d ≡ inflowIn g outlets x d) × (value d ≡ cellsOf g outlets (inflowIn g outlets x d)))
+      Side = ((inflowIn g [] x d ≡ inflowIn g outlets x d) × (cellsOf g outlets (inflowIn g outlets x d) ≤ value d))
           ⊎ ((cellsOf g outlets (inflowIn g outlets x d) ≡ 0) × (1 ≤ value d))
 
       by-test : (y : ℕ) → neighbour g x d ≡ some y → (b : Bool) → flowsIn g d (some y) ≡ b → (c : Bool)
           → member y outlets ≡ c → Side
-      by-test y n false f c o = inl (rw (n, f), rw (n, f))
+      by-test y n false f c o = inl (rw (n, f), rw (n, f) (omega arith))
       by-test y n true f c o =
           let v = flow-ground g y (opposite d) (points-flow g (opposite d) y f) in
           let e = ready .filled y (ground-within g y v) in
           flowing y n f e (some-cells g outlets (ready .lent) (ready .agreed) y v) c o
         where
           flowing : (y : ℕ) → neighbour g x d ≡ some y → flowsIn g d (some y) ≡ true
-              → getD subaccumulations y 0 ≡ sub y → 1 ≤ sub y → (c : Bool) → member y outlets ≡ c → Side
-          flowing y n f e h false o = inl (rw (n, f, o), rw (n, f, o) e)
+              → cellsHeld (getD subaccumulations y 0) ≡ sub y → 1 ≤ sub y → (c : Bool) → member y outlets ≡ c → Side
+          flowing y n f e h false o = inl (rw (n, f, o), rw (n, f, o) (omega arith))
           flowing y n f e h true o = inr (rw (n, f, o), rw (n, f) (omega arith))
 
       by-place : (p : Option ℕ) → neighbour g x d ≡ p → Side
-      by-place none n = inl (rw n, rw n)
+      by-place none n = inl (rw n, rw n (omega arith))
       by-place (some y) n = by-test y n (flowsIn g d (some y)) refl (member y outlets) refl
 
   -- if the sums are the same, none does
@@ -143,7 +144,7 @@ module _ {rows cols : ℕ} {codes outlets subaccumulations : List ℕ}
     alike (d ∷ ds) = ⊎-elim (λ s. same-side s (alike ds)) (λ s. outlet-side s (alike ds)) (side d)
       where
         same-side : (inflowIn g [] x d ≡ inflowIn g outlets x d)
-            × (value d ≡ cellsOf g outlets (inflowIn g outlets x d))
+            × (cellsOf g outlets (inflowIn g outlets x d) ≤ value d)
             → Alike ds → Alike (d ∷ ds)
         same-side s ih = record {
           no-fewer = omega (arith, s .1, ih .no-fewer);

@@ -5,20 +5,20 @@ use mathlib.Core.Bool.{Bool}
 use mathlib.Core.List.{List, _++_, map}
 use Prim.Native.Nat.{ℕ, _+_, _*_, _≤_, _<_, _^_}
 use native.Mathlib.Omega.{arith}
-use lib.ListN.{length}
-use lib.Dec.{eqb}
+use lib.ListN.{length, getD}
 use Rattle.lengths.specs.declared.Length.{Length}
 use Rattle.lists.specs.Lists.{Every}
-use Rattle.ground.specs.Compass.{dirs, squares}
+use Rattle.ground.specs.Compass.{Dir, dirs, squares}
 use Rattle.ground.specs.Grid.{Grid, gridOf}
 use Rattle.ground.specs.Accumulation.{subaccumulation}
-use Rattle.search.specs.Search.{State, meetIf, tracingRule}
+use Rattle.ground.specs.Forest.{Which}
+use Rattle.search.specs.Search.{State, tracingRule}
 use Rattle.search.specs.Neighbours.{turnTo, enter}
-use Rattle.search.proofs.Neighbours.{visit-is}
+use Rattle.notes.specs.Notes.{metBy}
 use Rattle.progress.specs.declared.Progress.{Progress}
-use Rattle.progress.specs.Starts.{startAt, startsOf, stateOf, Room, Visited}
+use Rattle.progress.specs.Starts.{startAt, stateOf, Room, Visited}
 use Rattle.progress.proofs.Kept.{kept-same}
-use Rattle.upstream.specs.Ready.{Ready, OnGround}
+use Rattle.upstream.specs.Ready.{Ready, OnGround, metIn}
 use Rattle.stack.specs.declared.Pending.{Pending}
 use Rattle.stack.specs.declared.Stack.{Stack}
 use Rattle.stack.specs.Pending.{pending, inflowsAbove, PutOn}
@@ -52,10 +52,10 @@ module _ {rows cols : ℕ} {codes outlets subaccumulations : List ℕ}
       fits .few-visited,
     )
 
-    module _ {n : ℕ} (is-n : n ≡ sub x) {q : Progress} {mid : List ℕ}
-        (v : Visited old mid end x (eqb n 1) len p q) where
+    module _ (edition : ℕ) {q : Progress} {mid : List ℕ}
+        (v : Visited old mid end x (metBy edition (getD subaccumulations x 0)) len p q) where
       pub entered : {r : ℕ} {new : List ℕ} → PutOn (inflowsAbove g outlets x len dirs) top mid r new
-          → Entered g outlets x len end p top old (record { progress = q; top = r }) new
+          → Entered g outlets (metIn edition subaccumulations) x len end p top old (record { progress = q; top = r }) new
       entered {r} {new} put =
           let higher : 3 * r + q .paths ≤ end =
           omega (arith, put .count, few-above ready at len, v .few, fits .room) in
@@ -64,13 +64,7 @@ module _ {rows cols : ℕ} {codes outlets subaccumulations : List ℕ}
               starts = map (startAt (q .greatest)) cs;
               visited = q .visited;
               dropped = q .dropped;
-            }) (kept-same new mid end (q .paths) (omega arith) (λ i a b. put .beyond i (omega arith)))
-                ∙ v .state
-                ∙ ap (λ (m : ℕ). record {
-                  starts = meetIf squares (eqb m 1) (startsOf p old end) (startAt len x);
-                  visited = p .visited + 1;
-                  dropped = p .dropped;
-                }) is-n;
+            }) (kept-same new mid end (q .paths) (omega arith) (λ i a b. put .beyond i (omega arith))) ∙ v .state;
             few = v .few;
             pending-is = put .pending-is ∙ ap (λ ws. inflowsAbove g outlets x len dirs ++ ws)
                 (pending-same mid old top (λ i h. v .only .below i (omega (arith, fits .room, one-cell ready at))));
@@ -79,8 +73,8 @@ module _ {rows cols : ℕ} {codes outlets subaccumulations : List ℕ}
 
   -- ---- what it makes of the search
 
-  module _ {len : Length} {end : ℕ} {p : Progress} {top : ℕ} {old : List ℕ} {r : Stack} {new : List ℕ}
-      (e : Entered g outlets x len end p top old r new) where
+  module _ {met : Which Dir} {len : Length} {end : ℕ} {p : Progress} {top : ℕ} {old : List ℕ} {r : Stack} {new : List ℕ}
+      (e : Entered g outlets met x len end p top old r new) where
     abbrev above : List Pending
     above = inflowsAbove g outlets x len dirs
 
@@ -95,17 +89,15 @@ module _ {rows cols : ℕ} {codes outlets subaccumulations : List ℕ}
     )
 
     -- the rest of the search is the same
-    pub drained : (dropping : Bool) → drain g outlets dropping (pending new (r .top)) (stateOf (r .progress) new end)
-        ≡ drain g outlets dropping (pending old top)
-        (enter squares (tracingRule squares dropping) g outlets x len (stateOf p old end))
+    pub drained : (dropping : Bool) → drain g outlets met dropping (pending new (r .top)) (stateOf (r .progress) new end)
+        ≡ drain g outlets met dropping (pending old top)
+        (enter squares (tracingRule squares met dropping) g outlets x len (stateOf p old end))
     unfolding enter
-    drained dropping = ap (λ ws. drain g outlets dropping ws (stateOf (r .progress) new end)) (e .pending-is)
-        ∙ drain-append g outlets dropping above (pending old top) (stateOf (r .progress) new end)
-        ∙ ap (drain g outlets dropping (pending old top))
-        (sym (followed ready at len .drains dropping (stateOf (r .progress) new end))
-        ∙ ap (turnTo squares (tracingRule squares dropping) g outlets dirs x len) (e .state
-        ∙ sym (visit-is squares dropping g outlets (ready .lent) (ready .agreed) (stateOf p old end) x len
-        (at .solid))))
+    drained dropping = ap (λ ws. drain g outlets met dropping ws (stateOf (r .progress) new end)) (e .pending-is)
+        ∙ drain-append g outlets met dropping above (pending old top) (stateOf (r .progress) new end)
+        ∙ ap (drain g outlets met dropping (pending old top))
+        (sym (followed ready at len .drains met dropping (stateOf (r .progress) new end))
+        ∙ ap (turnTo squares (tracingRule squares met dropping) g outlets dirs x len) (e .state))
 
     pub stands : Every (Waits g outlets end) (pending old top)
         → 3 * (p .visited + p .dropped + (sub x + cellsPending g outlets (pending old top))) ≡ end

@@ -10,10 +10,10 @@ use Rattle.lengths.specs.declared.Length.{Length}
 use Rattle.lengths.specs.Rule.{counts}
 use Rattle.lengths.specs.Lengths.{squareCells, farthest}
 use Rattle.lists.specs.Lists.{Every}
-use Rattle.ground.specs.Compass.{squares}
+use Rattle.ground.specs.Compass.{Dir, squares}
 use Rattle.ground.specs.Grid.{Grid, gridOf}
 use Rattle.ground.specs.Accumulation.{subaccumulation}
-use Rattle.ground.specs.Forest.{forest}
+use Rattle.ground.specs.Forest.{Which, forest}
 use Rattle.search.specs.Search.{State, tracingRule, dropCells, searchFrom}
 use Rattle.search.proofs.Neighbours.{search-enters}
 use Rattle.progress.specs.declared.Progress.{Progress}
@@ -31,10 +31,10 @@ use Rattle.stack.proofs.Climbing.{one-cell, small-cells}
 use Rattle.stack.proofs.Entering.{cells-left, drained, stands}
 
 -- turn after turn the rest of the search is the same
-pub drains-on : {g : Grid} {outlets : List ℕ} {dropping : Bool} {end : ℕ} {s : Stack} {old : List ℕ} {r : Stack}
-    {new : List ℕ} {st : State squares} → Turned g outlets dropping end s old r new
-    → drain g outlets dropping (pending old (s .top)) (stateOf (s .progress) old end) ≡ st
-    → drain g outlets dropping (pending new (r .top)) (stateOf (r .progress) new end) ≡ st
+pub drains-on : {g : Grid} {outlets : List ℕ} {met : Which Dir} {dropping : Bool} {end : ℕ} {s : Stack} {old : List ℕ} {r : Stack}
+    {new : List ℕ} {st : State squares} → Turned g outlets met dropping end s old r new
+    → drain g outlets met dropping (pending old (s .top)) (stateOf (s .progress) old end) ≡ st
+    → drain g outlets met dropping (pending new (r .top)) (stateOf (r .progress) new end) ≡ st
 drains-on t e = t .drains ∙ e
 
 module _ {rows cols : ℕ} {codes outlets subaccumulations : List ℕ}
@@ -114,7 +114,7 @@ module _ {rows cols : ℕ} {codes outlets subaccumulations : List ℕ}
             pending-length old (s .top - 1),
           )
 
-      module _ (dropping : Bool) {n : ℕ} (is-n : n ≡ sub y) {b : Bool}
+      module _ (met : Which Dir) (dropping : Bool) {n : ℕ} (is-n : n ≡ sub y) {b : Bool}
           (tests : b ≡ (dropping && isBelow (farthest squareCells (w .len) (n - 1)) (s .progress))) where
         abbrev state : State squares
         state = stateOf (s .progress) old end
@@ -123,10 +123,10 @@ module _ {rows cols : ℕ} {codes outlets subaccumulations : List ℕ}
         test = tests ∙ drops-by dropping (s .progress) old end (w .len) n
             ∙ ap (dropsAt dropping (state .starts) (w .len)) is-n
 
-        first-taken : drain g outlets dropping (pending old (s .top)) state
-            ≡ drain g outlets dropping rest (taken g outlets dropping y (w .len) state)
+        first-taken : drain g outlets met dropping (pending old (s .top)) state
+            ≡ drain g outlets met dropping rest (taken g outlets met dropping y (w .len) state)
         unfolding drain
-        first-taken = ap (λ ws. drain g outlets dropping ws state) opened
+        first-taken = ap (λ ws. drain g outlets met dropping ws state) opened
 
         -- it is dropped
         pub turn-dropped : b ≡ true → {q : Progress} → q ≡ record {
@@ -134,7 +134,7 @@ module _ {rows cols : ℕ} {codes outlets subaccumulations : List ℕ}
           paths = s .progress .paths;
           visited = s .progress .visited;
           dropped = s .progress .dropped + n;
-        } → Turned g outlets dropping end s old (record { progress = q; top = s .top - 1 }) old
+        } → Turned g outlets met dropping end s old (record { progress = q; top = s .top - 1 }) old
         turn-dropped e is-q = rw is-q (record {
           standing = record {
             all-wait = wait .1;
@@ -143,8 +143,8 @@ module _ {rows cols : ℕ} {codes outlets subaccumulations : List ℕ}
             small = standing .small;
             within = standing .within;
           };
-          drains = sym (first-taken ∙ ap (drain g outlets dropping rest)
-              (taken-drops g outlets dropping y (w .len) state (sym test ∙ e)
+          drains = sym (first-taken ∙ ap (drain g outlets met dropping rest)
+              (taken-drops g outlets met dropping y (w .len) state (sym test ∙ e)
               ∙ ap (dropCells squares state) (sym is-n)));
           fewer = omega (arith, cells, one-cell ready on-ground);
           beyond = λ i h. refl;
@@ -152,15 +152,15 @@ module _ {rows cols : ℕ} {codes outlets subaccumulations : List ℕ}
 
         -- it is entered
         pub turn-entered : b ≡ false → {r : Stack} {new : List ℕ}
-            → Entered g outlets y (w .len) end (s .progress) (s .top - 1) old r new → length new ≡ length old
-            → Turned g outlets dropping end s old r new
+            → Entered g outlets met y (w .len) end (s .progress) (s .top - 1) old r new → length new ≡ length old
+            → Turned g outlets met dropping end s old r new
         turn-entered e {r} {new} into same = record {
           standing = stands ready on-ground into (wait .1)
               (omega (arith, cells, standing .all-cells)) (standing .few-paths) (standing .small)
               (omega (arith, same, standing .within)) (wait .0 .short);
           drains = drained ready on-ground into dropping
-              ∙ sym (first-taken ∙ ap (drain g outlets dropping rest)
-              (taken-enters g outlets dropping y (w .len) state (sym test ∙ e)));
+              ∙ sym (first-taken ∙ ap (drain g outlets met dropping rest)
+              (taken-enters g outlets met dropping y (w .len) state (sym test ∙ e)));
           fewer = omega (arith, cells, cells-left ready on-ground into);
           beyond = into .beyond;
         }
@@ -181,12 +181,12 @@ module _ {rows cols : ℕ} {codes outlets subaccumulations : List ℕ}
       few-paths = omega arith;
     })
 
-    module _ {end : ℕ} (is-end : end ≡ 3 * sub o) {p : Progress} (is-p : p ≡ begun)
+    module _ {met : Which Dir} {end : ℕ} (is-end : end ≡ 3 * sub o) {p : Progress} (is-p : p ≡ begun)
         {len : Length} (is-len : len ≡ counts 0 0) {old : List ℕ} {r : Stack} {new : List ℕ}
-        (enters : Entered g outlets o len end p 0 old r new) where
-      into : Entered g outlets o (counts 0 0) end begun 0 old r new
-      into = subst (λ q. Entered g outlets o (counts 0 0) end q 0 old r new) is-p
-          (subst (λ l. Entered g outlets o l end p 0 old r new) is-len enters)
+        (enters : Entered g outlets met o len end p 0 old r new) where
+      into : Entered g outlets met o (counts 0 0) end begun 0 old r new
+      into = subst (λ q. Entered g outlets met o (counts 0 0) end q 0 old r new) is-p
+          (subst (λ l. Entered g outlets met o l end p 0 old r new) is-len enters)
 
       pub outlet-stands : end ≤ length new → Standing g outlets end r new
       unfolding pending cellsPending
@@ -194,25 +194,25 @@ module _ {rows cols : ℕ} {codes outlets subaccumulations : List ℕ}
           (omega (arith, small-cells ready at)) h (omega arith)
 
       pub outlet-drains : (dropping : Bool)
-          → drain g outlets dropping (pending new (r .top)) (stateOf (r .progress) new end)
-          ≡ searchFrom squares (tracingRule squares dropping) o (forest g outlets o)
+          → drain g outlets met dropping (pending new (r .top)) (stateOf (r .progress) new end)
+          ≡ searchFrom squares (tracingRule squares met dropping) o (forest g outlets o)
       unfolding pending drain kept
       outlet-drains dropping = drained ready at into dropping
-          ∙ sym (search-enters squares (tracingRule squares dropping) g outlets (ready .lent) (ready .agreed) o
+          ∙ sym (search-enters squares (tracingRule squares met dropping) g outlets (ready .lent) (ready .agreed) o
           (at .solid))
 
     -- none is pending: all is traced
-    pub traced : {end : ℕ} → end ≡ 3 * sub o → (dropping : Bool) {s : Stack} (old : List ℕ) {work : List ℕ}
+    pub traced : {end : ℕ} → end ≡ 3 * sub o → (met : Which Dir) (dropping : Bool) {s : Stack} (old : List ℕ) {work : List ℕ}
         → Standing g outlets end s work → s .top ≡ 0
-        → drain g outlets dropping (pending work (s .top)) (stateOf (s .progress) work end)
-        ≡ searchFrom squares (tracingRule squares dropping) o (forest g outlets o)
+        → drain g outlets met dropping (pending work (s .top)) (stateOf (s .progress) work end)
+        ≡ searchFrom squares (tracingRule squares met dropping) o (forest g outlets o)
         → ((i : ℕ) → end ≤ i → getD work i 0 ≡ getD old i 0)
-        → Traced g outlets dropping o old (s .progress) work
+        → Traced g outlets met dropping o old (s .progress) work
     unfolding pending drain cellsPending
-    traced {end} is-end dropping {s} old {work} standing none d beyond = record {
+    traced {end} is-end met dropping {s} old {work} standing none d beyond = record {
       searched = record {
         state = ap (stateOf (s .progress) work) (sym is-end)
-            ∙ ap (λ (k : ℕ). drain g outlets dropping (pending work k) (stateOf (s .progress) work end)) (sym none) ∙ d;
+            ∙ ap (λ (k : ℕ). drain g outlets met dropping (pending work k) (stateOf (s .progress) work end)) (sym none) ∙ d;
         all-cells = omega (
           arith,
           standing .all-cells,

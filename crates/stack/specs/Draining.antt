@@ -5,12 +5,12 @@ use mathlib.Core.Bool.{Bool, true, false}
 use mathlib.Core.List.{List, [], _∷_, _++_}
 use Prim.Native.Nat.{ℕ, _+_, _*_, _≤_, _<_, _^_}
 use lib.ListN.{length, getD}
-use lib.Dec.{eqb}
 use Rattle.lengths.specs.declared.Length.{Length}
 use Rattle.lists.specs.Lists.{Every}
-use Rattle.ground.specs.Compass.{dirs, squares}
+use Rattle.ground.specs.Compass.{Dir, dirs, squares}
 use Rattle.ground.specs.Grid.{Grid, gridOf, ground}
 use Rattle.ground.specs.Accumulation.{subaccumulation}
+use Rattle.ground.specs.Forest.{Which, forest}
 use Rattle.search.specs.Tracing.{numbersEach}
 use Rattle.search.specs.Search.{State, meetIf, tracingRule, dropCells}
 use Rattle.search.specs.Neighbours.{enter}
@@ -46,12 +46,12 @@ module _ (g : Grid) (outlets : List ℕ) where
     pub small : end ≤ numbersEach * 2 ^ 24
     pub within : end ≤ length work
 
-  module _ (dropping : Bool) where
+  module _ (met : Which Dir) (dropping : Bool) where
     -- what the search does with a cell at its length: it drops or enters it
     unfoldable pub taken : ℕ → Length → State squares → State squares
     taken y len st = elim (dropsAt dropping (st .starts) len (subaccumulation g outlets y)) [
       | true ↦ dropCells squares st (subaccumulation g outlets y)
-      | false ↦ enter squares (tracingRule squares dropping) g outlets y len st
+      | false ↦ enter squares (tracingRule squares met dropping) g outlets y len st
     ]
 
     -- and with all pending cells, the first first
@@ -69,14 +69,14 @@ module _ (g : Grid) (outlets : List ℕ) where
 
     -- the whole search, with the starts before the end
     pub record Traced (o : ℕ) (old : List ℕ) (r : Progress) (new : List ℕ) : Type 0 where
-      pub searched : Searched g outlets dropping o (numbersEach * subaccumulation g outlets o) r new
+      pub searched : Searched g outlets met dropping o (numbersEach * subaccumulation g outlets o) r new
       pub beyond : (i : ℕ) → numbersEach * subaccumulation g outlets o ≤ i → getD new i 0 ≡ getD old i 0
 
   -- a cell was visited, and its inflows wait
-  pub record Entered (x : ℕ) (len : Length) (end : ℕ) (p : Progress) (top : ℕ) (old : List ℕ) (r : Stack)
-      (new : List ℕ) : Type 0 where
+  pub record Entered (met : Which Dir) (x : ℕ) (len : Length) (end : ℕ) (p : Progress) (top : ℕ) (old : List ℕ)
+      (r : Stack) (new : List ℕ) : Type 0 where
     pub state : _≡_ {A = State squares} (stateOf (r .progress) new end) (record {
-      starts = meetIf squares (eqb (subaccumulation g outlets x) 1) (startsOf p old end) (startAt len x);
+      starts = meetIf squares (met x (forest g outlets x)) (startsOf p old end) (startAt len x);
       visited = p .visited + 1;
       dropped = p .dropped;
     })
@@ -94,14 +94,14 @@ pub record Fits (cells : ℕ) (len : Length) (end : ℕ) (p : Progress) (top : �
 
 -- the same by the sizes, codes and outlets that the functions are handed
 module _ (rows cols : ℕ) (codes outlets : List ℕ) where
-  abbrev pub CellEntered : ℕ → ℕ → Length → ℕ → Progress → ℕ → List ℕ → Stack → List ℕ → Type 0
-  CellEntered row col = Entered (gridOf rows cols codes) outlets (row * cols + col)
+  abbrev pub CellEntered : Which Dir → ℕ → ℕ → Length → ℕ → Progress → ℕ → List ℕ → Stack → List ℕ → Type 0
+  CellEntered met row col = Entered (gridOf rows cols codes) outlets met (row * cols + col)
 
   abbrev pub StackStands : ℕ → Stack → List ℕ → Type 0
   StackStands = Standing (gridOf rows cols codes) outlets
 
-  abbrev pub StackTurned : Bool → ℕ → Stack → List ℕ → Stack → List ℕ → Type 0
+  abbrev pub StackTurned : Which Dir → Bool → ℕ → Stack → List ℕ → Stack → List ℕ → Type 0
   StackTurned = Turned (gridOf rows cols codes) outlets
 
-  abbrev pub StackTraced : Bool → ℕ → ℕ → List ℕ → Progress → List ℕ → Type 0
-  StackTraced dropping row col = Traced (gridOf rows cols codes) outlets dropping (row * cols + col)
+  abbrev pub StackTraced : Which Dir → Bool → ℕ → ℕ → List ℕ → Progress → List ℕ → Type 0
+  StackTraced met dropping row col = Traced (gridOf rows cols codes) outlets met dropping (row * cols + col)

@@ -4,6 +4,8 @@ use lengths::Length;
 use lists::index_of;
 use lists::wide;
 use moves::Spot;
+use notes::cells_held;
+use notes::is_met;
 use progress::Progress;
 use progress::begin;
 use progress::drop_cells;
@@ -17,7 +19,7 @@ ghost use Prim.Native.Nat.{_+_, _*_, _≤_, _<_};
 ghost use lib.ListN.{length};
 ghost use Rattle.search.specs.Tracing.{numbersEach};
 ghost use Rattle.moves.specs.Lent.{OnCell};
-ghost use Rattle.upstream.specs.Ready.{Ready, OnGround, cellsAt};
+ghost use Rattle.upstream.specs.Ready.{Ready, OnGround, cellsAt, metIn};
 ghost use Rattle.stack.specs.Pending.{Short, pendingAt, pendingWith, allAbove, PutOn};
 ghost use Rattle.stack.specs.Draining.{Fits, CellEntered, StackStands, StackTurned, StackTraced};
 
@@ -142,13 +144,14 @@ fn climb(
     put_inflows(rows, cols, codes, outlets, row, col, len, top, work)
 }
 
-// A cell is visited at its length, and its inflows wait.
+// A cell is visited at its length, met or not by the edition, and its inflows wait.
 fn enter_cell(
     rows: usize,
     cols: usize,
     codes: &[u8],
     outlets: &[u32],
     subaccumulation: &[u32],
+    edition: u32,
     row: usize,
     col: usize,
     len: Length,
@@ -160,12 +163,13 @@ fn enter_cell(
     requires { ⌜ Ready rows cols (now codes) (now outlets) (now subaccumulation) ⌝ }
     requires { ⌜ OnGround rows cols (now codes) row col ⌝ }
     requires { ⌜ Fits (cellsAt rows cols (now codes) (now outlets) row col) len end p top (now work) ⌝ }
-    ensures { λ r. ⌜ CellEntered rows cols (now (codes .entry)) (now (outlets .entry)) row col len end p top
-        (now (work .entry)) r (now (work .exit)) ⌝ }
+    ensures { λ r. ⌜ CellEntered rows cols (now (codes .entry)) (now (outlets .entry))
+        (metIn edition (now (subaccumulation .entry))) row col len end p top (now (work .entry)) r (now (work .exit)) ⌝ }
 {
     let at = row * cols + col;
-    let n = subaccumulation[at];
-    let progress = visit(work, end, at as u32, n == 1, len, p);
+    let word = subaccumulation[at];
+    let n = cells_held(word);
+    let progress = visit(work, end, at as u32, is_met(edition, word), len, p);
     let higher = climb(
         rows,
         cols,
@@ -193,6 +197,7 @@ fn enter_outlet(
     codes: &[u8],
     outlets: &[u32],
     subaccumulation: &[u32],
+    edition: u32,
     row: usize,
     col: usize,
     len: Length,
@@ -204,12 +209,12 @@ fn enter_outlet(
     requires { ⌜ Ready rows cols (now codes) (now outlets) (now subaccumulation) ⌝ }
     requires { ⌜ OnGround rows cols (now codes) row col ⌝ }
     requires { ⌜ Fits (cellsAt rows cols (now codes) (now outlets) row col) len end p top (now work) ⌝ }
-    ensures { λ r. ⌜ CellEntered rows cols (now (codes .entry)) (now (outlets .entry)) row col len end p top
-        (now (work .entry)) r (now (work .exit)) ⌝ }
+    ensures { λ r. ⌜ CellEntered rows cols (now (codes .entry)) (now (outlets .entry))
+        (metIn edition (now (subaccumulation .entry))) row col len end p top (now (work .entry)) r (now (work .exit)) ⌝ }
 {
     let at = row * cols + col;
-    let n = subaccumulation[at];
-    let visited = visit(work, end, at as u32, n == 1, len, p);
+    let met = is_met(edition, subaccumulation[at]);
+    let visited = visit(work, end, at as u32, met, len, p);
     let first = put_inflows(rows, cols, codes, outlets, row, col, len, top, work);
     Stack {
         progress: visited,
@@ -224,6 +229,7 @@ fn turn(
     codes: &[u8],
     outlets: &[u32],
     subaccumulation: &[u32],
+    edition: u32,
     dropping: bool,
     end: usize,
     s: Stack,
@@ -231,8 +237,8 @@ fn turn(
 ) -> Stack
     requires { ⌜ Ready rows cols (now codes) (now outlets) (now subaccumulation) ⌝ }
     requires { ⌜ StackStands rows cols (now codes) (now outlets) end s (now work) × (0 < s .top) ⌝ }
-    ensures { λ r. ⌜ StackTurned rows cols (now (codes .entry)) (now (outlets .entry)) dropping end s
-        (now (work .entry)) r (now (work .exit)) ⌝ }
+    ensures { λ r. ⌜ StackTurned rows cols (now (codes .entry)) (now (outlets .entry))
+        (metIn edition (now (subaccumulation .entry))) dropping end s (now (work .entry)) r (now (work .exit)) ⌝ }
 {
     let top = s.top - 1;
     let p = s.progress;
@@ -240,7 +246,7 @@ fn turn(
     let row = w.row;
     let col = w.col;
     let len = w.len;
-    let n = subaccumulation[row * cols + col];
+    let n = cells_held(subaccumulation[row * cols + col]);
     if is_dropped(dropping, len, n, p) {
         return Stack {
             progress: drop_cells(p, n),
@@ -253,6 +259,7 @@ fn turn(
         codes,
         outlets,
         subaccumulation,
+        edition,
         row,
         col,
         len,
@@ -271,6 +278,7 @@ pub fn trace(
     codes: &[u8],
     outlets: &[u32],
     subaccumulation: &[u32],
+    edition: u32,
     dropping: bool,
     row: usize,
     col: usize,
@@ -279,10 +287,10 @@ pub fn trace(
     requires { ⌜ Ready rows cols (now codes) (now outlets) (now subaccumulation) ⌝ }
     requires { ⌜ OnGround rows cols (now codes) row col ⌝ }
     requires { ⌜ numbersEach * cellsAt rows cols (now codes) (now outlets) row col ≤ length (now work) ⌝ }
-    ensures { λ r. ⌜ StackTraced rows cols (now (codes .entry)) (now (outlets .entry)) dropping row col
-        (now (work .entry)) r (now (work .exit)) ⌝ }
+    ensures { λ r. ⌜ StackTraced rows cols (now (codes .entry)) (now (outlets .entry))
+        (metIn edition (now (subaccumulation .entry))) dropping row col (now (work .entry)) r (now (work .exit)) ⌝ }
 {
-    let end = NUMBERS_EACH * index_of(subaccumulation[row * cols + col]);
+    let end = NUMBERS_EACH * index_of(cells_held(subaccumulation[row * cols + col]));
     let none = Length::none();
     let mut s = enter_outlet(
         rows,
@@ -290,6 +298,7 @@ pub fn trace(
         codes,
         outlets,
         subaccumulation,
+        edition,
         row,
         col,
         none,
@@ -305,6 +314,7 @@ pub fn trace(
             codes,
             outlets,
             subaccumulation,
+            edition,
             dropping,
             end,
             s,

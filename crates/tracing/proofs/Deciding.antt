@@ -14,7 +14,9 @@ use Rattle.lists.specs.Slices.{overlaid}
 use Rattle.ground.specs.Accumulation.{subaccumulations}
 use Rattle.search.specs.Tracing.{Tracing, pathCount, startCells, numbersEach}
 use Rattle.answers.specs.declared.Traced.{Traced}
-use Rattle.answers.specs.Checks.{Check, firstFailed, check19, check20, check21}
+use Rattle.search.specs.Editions.{isEdition}
+use Rattle.answers.specs.Checks.{Check, firstFailed, check19, check20, check21, check25}
+use Rattle.answers.specs.Entries.{placeChecks}
 use Rattle.answers.specs.Answers.{tracedWith, tracedBy}
 use Rattle.answers.specs.Tracings.{Call, Lent, lent, chosenCells, chosenTracing, callChecks}
 use Rattle.answers.specs.Tracings.{Traces}
@@ -38,16 +40,26 @@ module _ (q : Call) (old : Lent) where
   abbrev filled : List ℕ
   filled = overlaid (subaccumulations (q .catchment .grid) (q .catchment .outlets)) given
 
+  -- past 25
   abbrev choosing : List Check
-  choosing = callChecks q given
+  choosing = placeChecks (q .catchment) (q .place) (length (q .catchment .accumulation) ∷ length given ∷ [])
+
+  past-25 : isEdition (q .edition) ≡ true → (ds : List Check) → firstFailed (callChecks q given ++ ds)
+      ≡ firstFailed (choosing ++ ds)
+  unfolding firstFailed check25
+  past-25 e ds = rw e
+
+  by-25 : isEdition (q .edition) ≡ false → (ds : List Check) → firstFailed (callChecks q given ++ ds) ≡ 25
+  unfolding firstFailed check25
+  by-25 e ds = rw e
 
   -- the number was given before the grid was filled,
-  at-first : (n : ℕ) → (n ≡ 0 → ⊥) → n < 19 → Traces q old n (refusedWith n) old
+  at-first : (n : ℕ) → (n ≡ 0 → ⊥) → (n < 19) ⊎ (21 < n) → Traces q old n (refusedWith n) old
   unfolding tracedWith leavesSubaccumulation leavesStarts
   at-first n z h =
-      let e19 : n ≡ 19 → ⊥ = λ e. omega (arith, h, e) in
-      let e20 : n ≡ 20 → ⊥ = λ e. omega (arith, h, e) in
-      let e21 : n ≡ 21 → ⊥ = λ e. omega (arith, h, e) in
+      let e19 = other h 19 (omega arith) (omega arith) in
+      let e20 = other h 20 (omega arith) (omega arith) in
+      let e21 = other h 21 (omega arith) (omega arith) in
       record {
         numbered = refl;
         answers = rw (ne-eqb n 0 z, ne-eqb n 21 e21);
@@ -59,6 +71,10 @@ module _ (q : Call) (old : Lent) where
         );
         lists = rw (ne-eqb 0 n (λ e. z (sym e)), ne-eqb 21 n (λ e. e21 (sym e)));
       }
+    where
+      other : (n < 19) ⊎ (21 < n) → (k : ℕ) → 19 ≤ k → k ≤ 21 → n ≡ k → ⊥
+      other (inl i) k a b e = omega arith
+      other (inr i) k a b e = omega arith
 
   -- after it,
   at-last : (n : ℕ) → (n ≡ 19) ⊎ (n ≡ 20) → Traces q old n (refusedWith n) (lent filled (old .starts))
@@ -73,15 +89,23 @@ module _ (q : Call) (old : Lent) where
   searched true = record { numbered = number-told 0 t; answers = refl; fills = refl; lists = refl }
   searched false = record { numbered = number-told 21 t; answers = refl; fills = refl; lists = refl }
 
-  module _ {p : Prepared} {grid : List ℕ} (prep : Prepares (q .catchment) (q .place) (old .subaccumulation) p grid)
-      (last : Check) where
+  -- REFUSED BY 25
+  refused-25 : isEdition (q .edition) ≡ false → (ds : List Check) → {r : Traced} → r ≡ refusedWith 25
+      → Traces q old (firstFailed (callChecks q given ++ ds)) r old
+  refused-25 e ds is = rw (by-25 e ds, is) (at-first 25 (λ i. absurd (omega (arith, i))) (inr (omega arith)))
+
+  module _ (judged : isEdition (q .edition) ≡ true) {p : Prepared} {grid : List ℕ}
+      (prep : Prepares (q .catchment) (q .place) (old .subaccumulation) p grid) (last : Check) where
+    abbrev after : List Check
+    after = last ∷ check21 (pathCount t) (old .starts) ∷ []
+
     abbrev number : ℕ
-    number = firstFailed (choosing ++ (last ∷ check21 (pathCount t) (old .starts) ∷ []))
+    number = firstFailed (callChecks q given ++ (last ∷ check21 (pathCount t) (old .starts) ∷ []))
 
     module _ (z : p .number ≡ 0 → ⊥) where
       -- REFUSED BY 10 TO 18
       early : number ≡ p .number
-      early = sym (handed-on choosing (last ∷ check21 (pathCount t) (old .starts) ∷ []) (prep .is-number) z)
+      early = past-25 judged after ∙ sym (handed-on choosing after (prep .is-number) z)
 
       small : p .number < 19
       small = elim (decLt (p .number) 19) [
@@ -91,12 +115,11 @@ module _ (q : Call) (old : Lent) where
       ]
 
       refused-early : {r : Traced} → r ≡ refusedWith (p .number) → Traces q old number r (lent grid (old .starts))
-      refused-early e = rw (early, e, prep .refused z) (at-first (p .number) z small)
+      refused-early e = rw (early, e, prep .refused z) (at-first (p .number) z (inl small))
 
     module _ (z : p .number ≡ 0) where
       beyond : number ≡ firstFailed (last ∷ check21 (pathCount t) (old .starts) ∷ [])
-      beyond = beyond-place (q .catchment) _ (q .place) (last ∷ check21 (pathCount t) (old .starts) ∷ [])
-          (sym (prep .is-number) ∙ z)
+      beyond = past-25 judged after ∙ beyond-place (q .catchment) _ (q .place) after (sym (prep .is-number) ∙ z)
 
       -- BY 19 OR 20
       late : last .passes ≡ false → number ≡ last .number
@@ -119,25 +142,29 @@ module _ (q : Call) (old : Lent) where
 
   -- ---- by recursion
 
-  module _ {p : Prepared} {grid : List ℕ} (prep : Prepares (q .catchment) (q .place)
-      (old .subaccumulation) p grid) where
+  pub recursion-25 : isEdition (q .edition) ≡ false → {r : Traced} → r ≡ refusedWith 25 → TracesByRecursion q old r old
+  unfolding recursionNumber
+  recursion-25 e is = refused-25 e _ is
+
+  module _ (judged : isEdition (q .edition) ≡ true) {p : Prepared} {grid : List ℕ}
+      (prep : Prepares (q .catchment) (q .place) (old .subaccumulation) p grid) where
     pub recursion-first : (p .number ≡ 0 → ⊥) → {r : Traced} → r ≡ refusedWith (p .number)
         → TracesByRecursion q old r (lent grid (old .starts))
     unfolding recursionNumber
-    recursion-first z e = refused-early prep (check19 (chosenCells q)) z e
+    recursion-first z e = refused-early judged prep (check19 (chosenCells q)) z e
 
     module _ (z : p .number ≡ 0) where
       pub recursion-19 : 4096 < p .cells → {r : Traced} → r ≡ refusedWith 19
           → TracesByRecursion q old r (lent grid (old .starts))
       unfolding recursionNumber check19
-      recursion-19 h e = refused-late prep (check19 (chosenCells q)) z
+      recursion-19 h e = refused-late judged prep (check19 (chosenCells q)) z
           (lt-leb (chosenCells q) 4096 (omega (arith, h, prep .counted z))) (inl refl) e
 
       pub recursion-whole : p .cells ≤ 4096 → {r : Traced} {list : List ℕ}
           → Lists (chosenTracing q) (old .starts) r list
           → TracesByRecursion q old r (lent grid list)
       unfolding recursionNumber check19
-      recursion-whole h l = answered-whole prep (check19 (chosenCells q)) z
+      recursion-whole h l = answered-whole judged prep (check19 (chosenCells q)) z
           (le-leb (chosenCells q) 4096 (omega (arith, h, prep .counted z))) l
 
   -- ---- from pending cells, with the working space
@@ -156,16 +183,24 @@ module _ (q : Call) (old : Lent) where
     work-clear true e f = rw e f
     work-clear false e f = rw e f
 
-    module _ {p : Prepared} {grid : List ℕ}
+    pub stack-25 : isEdition (q .edition) ≡ false → {r : Traced} → r ≡ refusedWith 25
+        → TracesByStack q old work r old work
+    unfolding stackNumber
+    stack-25 e is = record {
+      traces = refused-25 e _ is;
+      clears = work-kept 25 (by-25 e _) (λ i. absurd (omega (arith, i))) (λ i. absurd (omega (arith, i)));
+    }
+
+    module _ (judged : isEdition (q .edition) ≡ true) {p : Prepared} {grid : List ℕ}
         (prep : Prepares (q .catchment) (q .place) (old .subaccumulation) p grid) where
       pub stack-first : (p .number ≡ 0 → ⊥) → {r : Traced} → r ≡ refusedWith (p .number)
           → TracesByStack q old work r (lent grid (old .starts)) work
       unfolding stackNumber
       stack-first z e =
-          let s = small prep (check20 (chosenCells q) work) z in
+          let s = small judged prep (check20 (chosenCells q) work) z in
           record {
-            traces = refused-early prep (check20 (chosenCells q) work) z e;
-            clears = work-kept (p .number) (early prep (check20 (chosenCells q) work) z) z (λ i. omega (arith, s, i));
+            traces = refused-early judged prep (check20 (chosenCells q) work) z e;
+            clears = work-kept (p .number) (early judged prep (check20 (chosenCells q) work) z) z (λ i. omega (arith, s, i));
           }
 
       module _ (z : p .number ≡ 0) where
@@ -176,8 +211,8 @@ module _ (q : Call) (old : Lent) where
             let last = check20 (chosenCells q) work in
             let f = lt-leb (numbersEach * chosenCells q) (length work) (omega (arith, h, prep .counted z)) in
             record {
-              traces = refused-late prep last z f (inr refl) e;
-              clears = work-kept 20 (late prep last z f) (λ i. absurd (omega (arith, i)))
+              traces = refused-late judged prep last z f (inr refl) e;
+              clears = work-kept 20 (late judged prep last z f) (λ i. absurd (omega (arith, i)))
                   (λ i. absurd (omega (arith, i)));
             }
 
@@ -189,6 +224,6 @@ module _ (q : Call) (old : Lent) where
             let last = check20 (chosenCells q) work in
             let f = le-leb (numbersEach * chosenCells q) (length work) (omega (arith, h, prep .counted z)) in
             record {
-              traces = answered-whole prep last z f (l .listed);
-              clears = work-clear (leb (pathCount t) (length (old .starts))) (whole prep last z f) (l .clears);
+              traces = answered-whole judged prep last z f (l .listed);
+              clears = work-clear (leb (pathCount t) (length (old .starts))) (whole judged prep last z f) (l .clears);
             }

@@ -18,7 +18,7 @@ use Rattle.answers.specs.Entries.{Catchment, placeChecks}
 use Rattle.checks.proofs.Passed.{Sized, sized, Listed, in-list}
 use Rattle.filling.proofs.Fronts.{filled-at}
 use Rattle.accumulation.proofs.Subaccumulated.{lengths, before, good}
-use Rattle.upstream.specs.Ready.{Ready}
+use Rattle.noting.specs.Noting.{Fresh}
 use Rattle.tracing.specs.declared.Prepared.{Prepared}
 use Rattle.tracing.specs.Preparing.{Chosen, Prepares}
 
@@ -55,19 +55,21 @@ module _ (c : Catchment) (old : List ℕ) (ours : c .grid .table ≡ table1) (re
     at-cell x h = ap (λ (l : List ℕ). getD l x 0) filled
         ∙ filled-at land (c .outlets) old (sizes .reach (length old) (inr (inl refl))) x h
 
-    pub ready : Ready (land .rows) (land .cols) (land .codes) (c .outlets) new
-    ready = record {
-      grid = sizes .grid;
-      has-subaccumulations = omega (arith, long, sizes .reach (length old) (inr (inl refl)));
-      lent = c .accumulation;
+    pub fresh : Fresh (land .rows) (land .cols) (land .codes) (c .outlets) new
+    fresh = record {
+      lent-grid = sizes .grid;
+      some-cols = sizes .some-cols;
+      has-room = omega (arith, long, sizes .reach (length old) (inr (inl refl)));
+      accumulation = c .accumulation;
       agreed = made-of (λ g. agrees g (c .accumulation) ≡ true) (list .agreement);
       filled = made-of (λ g. (x : ℕ) → x < cellCount land → getD new x 0 ≡ subaccumulation g (c .outlets) x) at-cell;
+      on-ground = λ j i. made-of (λ g. ground g (getD (c .outlets) j 0) ≡ true) (list .at-ground j i);
     }
 
     -- an outlet's own cells
     module _ (place : ℕ) (i : place < length (c .outlets)) where
       pub in-grid : getD (c .outlets) place 0 < length new
-      in-grid = omega (arith, within place i, ready .has-subaccumulations)
+      in-grid = omega (arith, within place i, fresh .has-room)
 
       pub cells : getD new (getD (c .outlets) place 0) 0 ≡ subaccumulation land (c .outlets) (getD (c .outlets) place 0)
       cells = at-cell (getD (c .outlets) place 0) (within place i)
@@ -78,8 +80,8 @@ module _ {c : Catchment} (ours : c .grid .table ≡ table1) {place : ℕ} {old :
   passed : firstFailed (placeChecks c place (lengths c old)) ≡ 0
   passed = sym (prep .is-number) ∙ z
 
-  pub prepared-ready : Ready (c .grid .rows) (c .grid .cols) (c .grid .codes) (c .outlets) new
-  prepared-ready = ready c old ours (check18 (c .outlets) place ∷ []) passed (prep .filled z)
+  pub prepared-fresh : Fresh (c .grid .rows) (c .grid .cols) (c .grid .codes) (c .outlets) new
+  prepared-fresh = fresh c old ours (check18 (c .outlets) place ∷ []) passed (prep .filled z)
 
   pub prepared-chosen : Chosen (c .grid .rows) (c .grid .cols) (c .grid .codes) (c .outlets) place
   prepared-chosen = chosen c old ours (check18 (c .outlets) place ∷ []) passed place

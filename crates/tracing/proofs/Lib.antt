@@ -1,3 +1,4 @@
 pub mod Filled
 pub mod Searching
+pub mod Noted
 pub mod Deciding

@@ -9,16 +9,21 @@ use lib.ListN.{length, getD, length-map}
 use Rattle.cells.specs.Numbers.{RowAndColumn}
 use Rattle.cells.proofs.Numbers.{row-inside}
 use Rattle.lengths.specs.declared.Length.{Length}
+use Rattle.ground.specs.Compass.{Dir}
 use Rattle.ground.specs.Grid.{Grid, gridOf, ground}
 use Rattle.ground.specs.Accumulation.{subaccumulation}
+use Rattle.ground.specs.Forest.{Which}
 use Rattle.ground.proofs.Cells.{ground-within}
 use Rattle.search.specs.Tracing.{Tracing, firstLength, pathCount, startCells, tracing, tracingBy}
-use Rattle.search.specs.Demand.{anyCell, Demand3}
+use Rattle.search.specs.Editions.{meetsBy}
 use Rattle.search.proofs.Demand3.{demand3}
+use Rattle.search.proofs.Editions.{met-inside}
+use Rattle.notes.specs.Notes.{cellsHeld}
 use Rattle.progress.specs.declared.Progress.{Progress}
 use Rattle.progress.specs.Starts.{kept, startAt, stateOf}
 use Rattle.progress.proofs.Kept.{kept-length}
-use Rattle.upstream.specs.Ready.{Ready, OnGround, cellsAt, Searched}
+use Rattle.upstream.specs.Ready.{Ready, OnGround, cellsAt, metIn, MetAt, Searched}
+use Rattle.lists.specs.Lists.{member}
 use Rattle.lists.specs.Slices.{overlaid}
 use Rattle.answers.specs.declared.Traced.{Traced}
 use Rattle.lists.proofs.Members.{member-at}
@@ -47,7 +52,7 @@ module _ {rows cols : ℕ} {codes outlets subaccumulations : List ℕ}
 
   -- its cells, in the grid
   pub own-cells : (outlet < length subaccumulations)
-      × (getD subaccumulations outlet 0 ≡ subaccumulation land outlets outlet)
+      × (cellsHeld (getD subaccumulations outlet 0) ≡ subaccumulation land outlets outlet)
   own-cells =
       let i = ground-within land outlet (chosen .solid) in
       (omega (arith, i, ready .has-subaccumulations), ready .filled outlet i)
@@ -64,51 +69,53 @@ module _ {rows cols : ℕ} {codes outlets subaccumulations : List ℕ}
     pub cells-there : cellsAt rows cols codes outlets row col ≡ cellsOf rows cols codes outlets place
     cells-there = ap (subaccumulation land outlets) (cell .is-number)
 
-    pub searched-there : {dropping : Bool} {end : ℕ} {p : Progress} {new : List ℕ}
-        → Searched land outlets dropping (row * cols + col) end p new
-        → Searched land outlets dropping outlet end p new
-    searched-there {dropping} {end} {p} {new} s =
-        subst (λ (y : ℕ). Searched land outlets dropping y end p new) (cell .is-number) s
+    pub searched-there : {met : Which Dir} {dropping : Bool} {end : ℕ} {p : Progress} {new : List ℕ}
+        → Searched land outlets met dropping (row * cols + col) end p new
+        → Searched land outlets met dropping outlet end p new
+    searched-there {met} {dropping} {end} {p} {new} s =
+        subst (λ (y : ℕ). Searched land outlets met dropping y end p new) (cell .is-number) s
 
     -- the same in as much working space as the outlet has cells
-    pub searched-within : {dropping : Bool} {p : Progress} {new : List ℕ}
-        → Searched land outlets dropping (row * cols + col) (3 * cellsAt rows cols codes outlets row col) p new
-        → Searched land outlets dropping outlet (3 * cellsOf rows cols codes outlets place) p new
-    searched-within {dropping} {p} {new} s =
-        subst (λ (m : ℕ). Searched land outlets dropping outlet (3 * m) p new) cells-there (searched-there s)
+    pub searched-within : {met : Which Dir} {dropping : Bool} {p : Progress} {new : List ℕ}
+        → Searched land outlets met dropping (row * cols + col) (3 * cellsAt rows cols codes outlets row col) p new
+        → Searched land outlets met dropping outlet (3 * cellsOf rows cols codes outlets place) p new
+    searched-within {met} {dropping} {p} {new} s =
+        subst (λ (m : ℕ). Searched land outlets met dropping outlet (3 * m) p new) cells-there (searched-there s)
 
-  module _ {dropping : Bool} {end : ℕ} {p : Progress} {new : List ℕ}
-      (s : Searched land outlets dropping outlet end p new) where
-    -- THE ENGINE'S RECORD IS THE DEFINITION'S TRACING
-    found : tracing dropping land outlets outlet ≡ stateOf p new end
-    unfolding tracingBy
-    found = sym (s .state)
+  module _ (edition : ℕ) (told : MetAt edition land outlets outlet subaccumulations) {dropping : Bool} {end : ℕ}
+      {p : Progress} {new : List ℕ} (s : Searched land outlets (metIn edition subaccumulations) dropping outlet end p new)
+    where
+      listed : member outlet outlets ≡ true
+      listed = member-at outlets place (chosen .in-list)
 
-    many : length (kept new end (p .paths)) ≡ p .paths
-    many = kept-length new end (p .paths)
+      -- THE ENGINE'S RECORD IS THE DEFINITION'S TRACING
+      found : tracing edition dropping land outlets outlet ≡ stateOf p new end
+      unfolding tracingBy
+      found = sym (s .state ∙ met-inside land (ready .lent) (ready .agreed) outlets outlet listed (chosen .solid)
+          (metIn edition subaccumulations) (meetsBy edition land outlets outlet) told dropping)
 
-    count : pathCount (stateOf p new end) ≡ p .paths
-    count = length-map (kept new end (p .paths)) (startAt (p .greatest)) ∙ many
+      many : length (kept new end (p .paths)) ≡ p .paths
+      many = kept-length new end (p .paths)
 
-    some-path : 0 < p .paths
-    some-path =
-        let d : Demand3 land outlets anyCell outlet (tracing dropping land outlets outlet)
-        (tracing false land outlets outlet)
-        = demand3 land (ready .lent) (ready .agreed) outlets outlet (member-at outlets place (chosen .in-list))
-        (chosen .solid) dropping in
-        omega (arith, subst (λ (t : Tracing). 0 < pathCount t) found (d .not-none), count)
+      count : pathCount (stateOf p new end) ≡ p .paths
+      count = length-map (kept new end (p .paths)) (startAt (p .greatest)) ∙ many
 
-    pub counted : Counted (tracing dropping land outlets outlet) p
-    counted = subst (λ (t : Tracing). Counted t p) (sym found) (record {
-      longest = sym (first-of (p .greatest) (kept new end (p .paths)) (omega (arith, some-path, many)));
-      count = sym count;
-      visited = refl;
-      dropped = refl;
-    })
+      some-path : 0 < p .paths
+      some-path =
+          let d = demand3 land (ready .lent) (ready .agreed) outlets outlet listed (chosen .solid) edition dropping in
+          omega (arith, subst (λ (t : Tracing). 0 < pathCount t) found (d .not-none), count)
 
-    pub starts-are : kept new end (p .paths) ≡ startCells (tracing dropping land outlets outlet)
-    starts-are = subst (λ (t : Tracing). kept new end (p .paths) ≡ startCells t) (sym found)
-        (sym (cells-of (p .greatest) (kept new end (p .paths))))
+      pub counted : Counted (tracing edition dropping land outlets outlet) p
+      counted = subst (λ (t : Tracing). Counted t p) (sym found) (record {
+        longest = sym (first-of (p .greatest) (kept new end (p .paths)) (omega (arith, some-path, many)));
+        count = sym count;
+        visited = refl;
+        dropped = refl;
+      })
+
+      pub starts-are : kept new end (p .paths) ≡ startCells (tracing edition dropping land outlets outlet)
+      starts-are = subst (λ (t : Tracing). kept new end (p .paths) ≡ startCells t) (sym found)
+          (sym (cells-of (p .greatest) (kept new end (p .paths))))
 
 -- so is the answer
 pub answers-counted : {t : Tracing} {p : Progress} → Counted t p → {old list : List ℕ} {r : Traced}

@@ -24,8 +24,8 @@ module _ (rows cols : ℕ) (codes outlets : List ℕ) (place : ℕ) where
   abbrev pub cellsOf : ℕ
   cellsOf = subaccumulation (gridOf rows cols codes) outlets (getD outlets place 0)
 
-  abbrev pub tracingAt : Bool → Tracing
-  tracingAt dropping = tracing dropping (gridOf rows cols codes) outlets (getD outlets place 0)
+  abbrev pub tracingAt : ℕ → Bool → Tracing
+  tracingAt edition dropping = tracing edition dropping (gridOf rows cols codes) outlets (getD outlets place 0)
 
 -- a search ended with what the tracing tells
 pub record Counted (t : Tracing) (r : Progress) : Type 0 where

@@ -8,56 +8,78 @@ use listing::list_starts;
 use listing::refused;
 use lists::clear;
 use lists::index_of;
+use notes::cells_held;
+use notes::is_edition;
+use noting::make_plain;
+use noting::make_ready;
 use progress::Progress;
 use stack::NUMBERS_EACH;
 ghost use mathlib.Core.Path.{_≡_};
 ghost use Prim.Native.Nat.{_*_, _≤_};
-ghost use lib.ListN.{length};
+ghost use lib.ListN.{length, getD};
 ghost use Rattle.search.specs.Tracing.{numbersEach};
-ghost use Rattle.upstream.specs.Ready.{Ready};
+ghost use Rattle.ground.specs.Grid.{gridOf};
+ghost use Rattle.upstream.specs.Ready.{Ready, MetAt};
+ghost use Rattle.noting.specs.Noting.{Fresh};
 ghost use Rattle.answers.specs.Entries.{catchment};
 ghost use Rattle.answers.specs.Tracings.{callOf, lent, TracesByRecursion, TracesByStack};
 ghost use Rattle.tracing.specs.Answering.{cellsOf, tracingAt, Told, ToldAndLists, Lists, ListsAndClears};
 ghost use Rattle.tracing.specs.Preparing.{Chosen, Prepares};
 
-// Traces an outlet by recursion, in a grid that holds the subaccumulation. The starts wait in an array, since those
-// of a length that is exceeded later must not be seen in the list.
+// Traces an outlet by recursion, in a grid that holds the subaccumulation and comes back as it was. The starts wait in
+// an array, since those of a length that is exceeded later must not be seen in the list.
 fn by_recursion(
+    edition: u32,
     rows: usize,
     cols: usize,
     codes: &[u8],
     outlets: &[u32],
-    subaccumulation: &[u32],
+    subaccumulation: &mut [u32],
     dropping: bool,
     place: usize,
     starts: &mut [u32],
 ) -> Traced
-    requires { ⌜ Ready rows cols (now codes) (now outlets) (now subaccumulation) ⌝ }
+    requires { ⌜ Fresh rows cols (now codes) (now outlets) (now subaccumulation) ⌝ }
     requires { ⌜ Chosen rows cols (now codes) (now outlets) place ⌝ }
     requires { ⌜ cellsOf rows cols (now codes) (now outlets) place ≤ 4096 ⌝ }
-    ensures { λ r. ⌜ Lists (tracingAt rows cols (now (codes .entry)) (now (outlets .entry)) place dropping)
+    ensures { λ r. ⌜ Lists (tracingAt rows cols (now (codes .entry)) (now (outlets .entry)) place edition dropping)
         (now (starts .entry)) r (now (starts .exit)) ⌝ }
+    ensures { λ _. ⌜ now (subaccumulation .exit) ≡ now (subaccumulation .entry) ⌝ }
 {
     let outlet = split_number(cols, outlets[place]);
     let mut found = [0u32; 4096];
+    make_ready(
+        edition,
+        rows,
+        cols,
+        codes,
+        outlets,
+        place,
+        place + 1,
+        subaccumulation,
+        &mut found,
+    );
     let p = recursion::trace(
         rows,
         cols,
         codes,
         outlets,
         subaccumulation,
+        edition,
         dropping,
         outlet.row,
         outlet.col,
         &mut found,
     );
+    make_plain(edition, rows * cols, subaccumulation);
     list_starts(&found, 4096, p.paths, starts);
     answer_for(p, starts.len())
 }
 
-// Searches an outlet's subwatershed from pending cells, in a grid that holds the subaccumulation. The starts are left
-// before the end of the working numbers that the outlet's cells take.
+// Searches an outlet's subwatershed from pending cells, in a grid that is ready for it. The starts are left before the
+// end of the working numbers that the outlet's cells take.
 pub fn search_at(
+    edition: u32,
     rows: usize,
     cols: usize,
     codes: &[u8],
@@ -68,9 +90,11 @@ pub fn search_at(
     work: &mut [u32],
 ) -> Progress
     requires { ⌜ Ready rows cols (now codes) (now outlets) (now subaccumulation) ⌝ }
-    requires { ⌜ Chosen rows cols (now codes) (now outlets) place ⌝ }
+    requires { ⌜ Chosen rows cols (now codes) (now outlets) place
+        × MetAt edition (gridOf rows cols (now codes)) (now outlets) (getD (now outlets) place 0) (now subaccumulation) ⌝ }
     requires { ⌜ numbersEach * cellsOf rows cols (now codes) (now outlets) place ≤ length (now work) ⌝ }
-    ensures { λ r. ⌜ Told (tracingAt rows cols (now (codes .entry)) (now (outlets .entry)) place dropping)
+    ensures { λ r. ⌜ Told (tracingAt rows cols (now (codes .entry)) (now (outlets .entry)) place edition
+        dropping)
         (cellsOf rows cols (now (codes .entry)) (now (outlets .entry)) place) (now (work .entry)) r
         (now (work .exit)) ⌝ }
 {
@@ -81,6 +105,7 @@ pub fn search_at(
         codes,
         outlets,
         subaccumulation,
+        edition,
         dropping,
         outlet.row,
         outlet.col,
@@ -90,6 +115,7 @@ pub fn search_at(
 
 // The same, and the starts are listed.
 pub fn list_at(
+    edition: u32,
     rows: usize,
     cols: usize,
     codes: &[u8],
@@ -101,15 +127,18 @@ pub fn list_at(
     work: &mut [u32],
 ) -> Progress
     requires { ⌜ Ready rows cols (now codes) (now outlets) (now subaccumulation) ⌝ }
-    requires { ⌜ Chosen rows cols (now codes) (now outlets) place ⌝ }
+    requires { ⌜ Chosen rows cols (now codes) (now outlets) place
+        × MetAt edition (gridOf rows cols (now codes)) (now outlets) (getD (now outlets) place 0) (now subaccumulation) ⌝ }
     requires { ⌜ numbersEach * cellsOf rows cols (now codes) (now outlets) place ≤ length (now work) ⌝ }
-    ensures { λ r. ⌜ ToldAndLists (tracingAt rows cols (now (codes .entry)) (now (outlets .entry)) place dropping)
+    ensures { λ r. ⌜ ToldAndLists (tracingAt rows cols (now (codes .entry)) (now (outlets .entry)) place edition
+        dropping)
         (cellsOf rows cols (now (codes .entry)) (now (outlets .entry)) place) (now (starts .entry))
         (now (work .entry)) r (now (starts .exit)) (now (work .exit)) ⌝ }
 {
     let at = index_of(outlets[place]);
-    let end = NUMBERS_EACH * index_of(subaccumulation[at]);
+    let end = NUMBERS_EACH * index_of(cells_held(subaccumulation[at]));
     let p = search_at(
+        edition,
         rows,
         cols,
         codes,
@@ -123,28 +152,44 @@ pub fn list_at(
     p
 }
 
-// Traces an outlet of so many cells from pending cells. The working numbers are cleared.
+// Traces an outlet of so many cells from pending cells, in a grid that holds the subaccumulation and comes back as it
+// was. The working numbers are cleared.
 fn by_stack(
+    edition: u32,
     rows: usize,
     cols: usize,
     codes: &[u8],
     outlets: &[u32],
-    subaccumulation: &[u32],
+    subaccumulation: &mut [u32],
     dropping: bool,
     place: usize,
     cells: u32,
     starts: &mut [u32],
     work: &mut [u32],
 ) -> Traced
-    requires { ⌜ Ready rows cols (now codes) (now outlets) (now subaccumulation) ⌝ }
+    requires { ⌜ Fresh rows cols (now codes) (now outlets) (now subaccumulation) ⌝ }
     requires { ⌜ Chosen rows cols (now codes) (now outlets) place ⌝ }
     requires { ⌜ (cells ≡ cellsOf rows cols (now codes) (now outlets) place)
         × (numbersEach * cells ≤ length (now work)) ⌝ }
-    ensures { λ r. ⌜ ListsAndClears (tracingAt rows cols (now (codes .entry)) (now (outlets .entry)) place dropping)
+    ensures { λ r. ⌜ ListsAndClears (tracingAt rows cols (now (codes .entry)) (now (outlets .entry)) place edition
+        dropping)
         (now (starts .entry)) (cellsOf rows cols (now (codes .entry)) (now (outlets .entry)) place)
         (now (work .entry)) r (now (starts .exit)) (now (work .exit)) ⌝ }
+    ensures { λ _. ⌜ now (subaccumulation .exit) ≡ now (subaccumulation .entry) ⌝ }
 {
+    make_ready(
+        edition,
+        rows,
+        cols,
+        codes,
+        outlets,
+        place,
+        place + 1,
+        subaccumulation,
+        work,
+    );
     let p = list_at(
+        edition,
         rows,
         cols,
         codes,
@@ -155,6 +200,7 @@ fn by_stack(
         starts,
         work,
     );
+    make_plain(edition, rows * cols, subaccumulation);
     let end = NUMBERS_EACH * index_of(cells);
     clear(end, work);
     answer_for(p, starts.len())
@@ -196,9 +242,10 @@ fn prepare(
     }
 }
 
-// Traces all longest paths to an outlet of the list, with or without dropping, by recursion: 10, 11, 12, 14 to 19,
-// 21. The grid is filled once 18 is past.
+// Traces all longest paths to an outlet of the list by an edition, with or without dropping, by recursion: 25, 10, 11,
+// 12, 14 to 19, 21. The grid is filled once 18 is past.
 pub fn trace_by_recursion(
+    edition: u32,
     rows: usize,
     cols: usize,
     codes: &[u8],
@@ -210,10 +257,14 @@ pub fn trace_by_recursion(
     starts: &mut [u32],
 ) -> Traced
     ensures { λ r. ⌜ TracesByRecursion
-        (callOf rows cols (now (codes .entry)) (now (accumulation .entry)) (now (outlets .entry)) place dropping)
+        (callOf edition rows cols (now (codes .entry)) (now (accumulation .entry)) (now (outlets .entry)) place
+        dropping)
         (lent (now (subaccumulation .entry)) (now (starts .entry)))
         r (lent (now (subaccumulation .exit)) (now (starts .exit))) ⌝ }
 {
+    if !is_edition(edition) {
+        return refused(25);
+    }
     let ready = prepare(
         rows,
         cols,
@@ -231,6 +282,7 @@ pub fn trace_by_recursion(
         return refused(19);
     }
     by_recursion(
+        edition,
         rows,
         cols,
         codes,
@@ -242,8 +294,9 @@ pub fn trace_by_recursion(
     )
 }
 
-// The same from pending cells, in lent working space: 10, 11, 12, 14 to 18, 20, 21.
+// The same from pending cells, in lent working space: 25, 10, 11, 12, 14 to 18, 20, 21.
 pub fn trace_by_stack(
+    edition: u32,
     rows: usize,
     cols: usize,
     codes: &[u8],
@@ -256,10 +309,14 @@ pub fn trace_by_stack(
     work: &mut [u32],
 ) -> Traced
     ensures { λ r. ⌜ TracesByStack
-        (callOf rows cols (now (codes .entry)) (now (accumulation .entry)) (now (outlets .entry)) place dropping)
+        (callOf edition rows cols (now (codes .entry)) (now (accumulation .entry)) (now (outlets .entry)) place
+        dropping)
         (lent (now (subaccumulation .entry)) (now (starts .entry))) (now (work .entry))
         r (lent (now (subaccumulation .exit)) (now (starts .exit))) (now (work .exit)) ⌝ }
 {
+    if !is_edition(edition) {
+        return refused(25);
+    }
     let ready = prepare(
         rows,
         cols,
@@ -278,6 +335,7 @@ pub fn trace_by_stack(
         return refused(20);
     }
     by_stack(
+        edition,
         rows,
         cols,
         codes,

@@ -2,7 +2,7 @@
 -- Assumes nothing.
 use mathlib.Core.Path.{_≡_, refl, sym, ap, _∙_, subst}
 use mathlib.Core.Bool.{Bool, true, false, cond}
-use mathlib.Core.List.{List}
+use mathlib.Core.List.{List, _++_}
 use Prim.Native.Nat.{ℕ, _*_, _≤_, _<_}
 use native.Mathlib.Omega.{arith}
 use native.Mathlib.Decide.{decLt}
@@ -17,7 +17,8 @@ use Rattle.ground.specs.Grid.{Grid}
 use Rattle.search.specs.Tracing.{pathCount, numbersEach}
 use Rattle.ground.specs.Accumulation.{subaccumulations}
 use Rattle.alloutlets.specs.declared.TracedAll.{TracedAll}
-use Rattle.answers.specs.Checks.{firstFailed, check20, check21, check23}
+use Rattle.search.specs.Editions.{isEdition}
+use Rattle.answers.specs.Checks.{firstFailed, check20, check21, check23, check25}
 use Rattle.answers.specs.Entries.{Catchment, Subaccumulates, subaccumulateNumber, subaccumulateLeaves}
 use Rattle.alloutlets.specs.AllOutlets.{LentAll, lentAll, mostCells, pathCounts, tracedAll, traceAllNumber, tellsAll}
 use Rattle.alloutlets.specs.AllOutlets.{lastChecks, leavesAll, tracingOf, allStarts, TracesAll}
@@ -39,26 +40,26 @@ module _ (g : Grid) (outlets : List ℕ) where
       let d = subst (λ (n : ℕ). Cleared n n mid space) e c in
       cleared-front asked r (kept-then k (d .kept)) (d .are-zero)
 
-  module _ {s : Sums} (e : s ≡ sumsOf g outlets) {paths : ℕ} (q : paths ≡ s .paths) where
-    pub total : paths ≡ sumOf (pathCounts g outlets)
+  module _ (edition : ℕ) {s : Sums} (e : s ≡ sumsOf edition g outlets) {paths : ℕ} (q : paths ≡ s .paths) where
+    pub total : paths ≡ sumOf (pathCounts edition g outlets)
     total = q ∙ ap (λ (t : Sums). t .paths) e
 
     module _ {starts counts work space : List ℕ} (clear : space ≡ overlaid (zeros asked) work) where
       -- NO PLACE FOR ALL
       pub searched-21 : length starts < paths
-          → SearchesAll g outlets starts counts work (tracedAll 21 (s .visited) (s .dropped)) starts counts space
+          → SearchesAll edition g outlets starts counts work (tracedAll 21 (s .visited) (s .dropped)) starts counts space
       unfolding tellsAll
       searched-21 h =
-          let no = lt-leb (sumOf (pathCounts g outlets)) (length starts) (omega (arith, h, total)) in
+          let no = lt-leb (sumOf (pathCounts edition g outlets)) (length starts) (omega (arith, h, total)) in
           record { answers = rw (no, e); lists = rw no; counted = rw no; clears = clear }
 
       -- PLACE FOR ALL
       pub searched-0 : paths ≤ length starts → {mid last starts′ counts′ : List ℕ}
-          → ListsAll g outlets starts counts mid starts′ counts′ last
-          → SearchesAll g outlets starts counts work (tracedAll 0 (s .visited) (s .dropped)) starts′ counts′ space
+          → ListsAll edition g outlets starts counts mid starts′ counts′ last
+          → SearchesAll edition g outlets starts counts work (tracedAll 0 (s .visited) (s .dropped)) starts′ counts′ space
       unfolding tellsAll
       searched-0 h l =
-          let yes = le-leb (sumOf (pathCounts g outlets)) (length starts) (omega (arith, h, total)) in
+          let yes = le-leb (sumOf (pathCounts edition g outlets)) (length starts) (omega (arith, h, total)) in
           record {
             answers = rw (yes, e);
             lists = rw yes (l .lists);
@@ -69,32 +70,43 @@ module _ (g : Grid) (outlets : List ℕ) where
 -- ---- the whole call
 
 -- past 23, both lists are written or kept
-either : (g : Grid) (outlets : List ℕ) (old : LentAll) (b : Bool)
+either : (edition : ℕ) (g : Grid) (outlets : List ℕ) (old : LentAll) (b : Bool)
     → lentAll (overlaid (subaccumulations g outlets) (old .subaccumulation))
-    (cond b (overlaid (allStarts g outlets) (old .starts)) (old .starts))
-    (cond b (overlaid (pathCounts g outlets) (old .counts)) (old .counts))
+    (cond b (overlaid (allStarts edition g outlets) (old .starts)) (old .starts))
+    (cond b (overlaid (pathCounts edition g outlets) (old .counts)) (old .counts))
     (overlaid (zeros (numbersEach * mostCells g outlets)) (old .work))
-    ≡ leavesAll g outlets (cond b 0 21) old
+    ≡ leavesAll edition g outlets (cond b 0 21) old
 unfolding leavesAll
-either g outlets old true = refl
-either g outlets old false = refl
+either edition g outlets old true = refl
+either edition g outlets old false = refl
 
-module _ (c : Catchment) (old : LentAll) {n : ℕ} {grid : List ℕ}
+module _ (edition : ℕ) (c : Catchment) (old : LentAll) where
+  past-25 : isEdition edition ≡ true → traceAllNumber edition c old
+      ≡ firstFailed (before c (old .subaccumulation) ++ lastChecks edition c old)
+  unfolding traceAllNumber firstFailed check25
+  past-25 e = rw e
+
+  -- REFUSED BY 25
+  pub all-25 : isEdition edition ≡ false → {r : TracedAll} → r ≡ tracedAll 25 0 0 → TracesAll edition c old r old
+  unfolding traceAllNumber firstFailed check25 tellsAll leavesAll
+  all-25 e q = record { answers = rw (e, q); leaves = rw e }
+
+module _ (edition : ℕ) (c : Catchment) (old : LentAll) (judged : isEdition edition ≡ true) {n : ℕ} {grid : List ℕ}
     (s : Subaccumulates c (old .subaccumulation) n grid) where
   abbrev cells : ℕ
   cells = mostCells (c .grid) (c .outlets)
 
   abbrev paths : List ℕ
-  paths = pathCounts (c .grid) (c .outlets)
+  paths = pathCounts edition (c .grid) (c .outlets)
 
   -- what is left where no list is written
   abbrev left : List ℕ → LentAll
   left work = lentAll grid (old .starts) (old .counts) work
 
   module _ (z : n ≡ 0 → ⊥) where
-    early : traceAllNumber c old ≡ n
-    unfolding traceAllNumber subaccumulateNumber
-    early = sym (handed-on (before c (old .subaccumulation)) (lastChecks c old) (s .answers) z)
+    early : traceAllNumber edition c old ≡ n
+    unfolding subaccumulateNumber
+    early = past-25 edition c old judged ∙ sym (handed-on (before c (old .subaccumulation)) (lastChecks edition c old) (s .answers) z)
 
     small : n < 18
     unfolding subaccumulateNumber
@@ -108,7 +120,7 @@ module _ (c : Catchment) (old : LentAll) {n : ℕ} {grid : List ℕ}
     kept = s .leaves ∙ rw (sym (s .answers), ne-eqb n 0 z)
 
     -- REFUSED BY 10 TO 17
-    pub all-first : {r : TracedAll} → r ≡ tracedAll n 0 0 → TracesAll c old r (left (old .work))
+    pub all-first : {r : TracedAll} → r ≡ tracedAll n 0 0 → TracesAll edition c old r (left (old .work))
     unfolding tellsAll leavesAll
     all-first e =
         let a = ne-eqb 0 n (λ i. z (sym i)) in
@@ -121,9 +133,9 @@ module _ (c : Catchment) (old : LentAll) {n : ℕ} {grid : List ℕ}
         }
 
   module _ (z : n ≡ 0) where
-    beyond : traceAllNumber c old ≡ firstFailed (lastChecks c old)
-    unfolding traceAllNumber subaccumulateNumber
-    beyond = beyond-outlets c _ (lastChecks c old) (sym (s .answers) ∙ z)
+    beyond : traceAllNumber edition c old ≡ firstFailed (lastChecks edition c old)
+    unfolding subaccumulateNumber
+    beyond = past-25 edition c old judged ∙ beyond-outlets c _ (lastChecks edition c old) (sym (s .answers) ∙ z)
 
     full : grid ≡ overlaid (subaccumulations (c .grid) (c .outlets)) (old .subaccumulation)
     unfolding subaccumulateLeaves
@@ -131,23 +143,23 @@ module _ (c : Catchment) (old : LentAll) {n : ℕ} {grid : List ℕ}
 
     -- BY 20
     pub all-20 : length (old .work) < numbersEach * cells → {r : TracedAll} → r ≡ tracedAll 20 0 0
-        → TracesAll c old r (left (old .work))
+        → TracesAll edition c old r (left (old .work))
     unfolding firstFailed check20 tellsAll leavesAll
     all-20 h e =
-        let m : traceAllNumber c old ≡ 20 = beyond ∙ rw (lt-leb (numbersEach * cells) (length (old .work)) h) in
+        let m : traceAllNumber edition c old ≡ 20 = beyond ∙ rw (lt-leb (numbersEach * cells) (length (old .work)) h) in
         record { answers = rw (m, e); leaves = rw (m, full) }
 
     -- a count for each outlet
     many : length paths ≡ length (c .outlets)
-    many = length-map (c .outlets) (λ o. pathCount (tracingOf (c .grid) (c .outlets) o))
+    many = length-map (c .outlets) (λ o. pathCount (tracingOf edition (c .grid) (c .outlets) o))
 
     module _ (w : numbersEach * cells ≤ length (old .work)) where
       -- BY 23
       pub all-23 : length (old .counts) < length (c .outlets) → {r : TracedAll} → r ≡ tracedAll 23 0 0
-          → TracesAll c old r (left (old .work))
+          → TracesAll edition c old r (left (old .work))
       unfolding firstFailed check20 check23 tellsAll leavesAll
       all-23 h e =
-          let m : traceAllNumber c old ≡ 23 = beyond ∙ rw (
+          let m : traceAllNumber edition c old ≡ 23 = beyond ∙ rw (
             le-leb (numbersEach * cells) (length (old .work)) w,
             lt-leb (length paths) (length (old .counts)) (omega (arith, h, many)),
           ) in
@@ -155,7 +167,7 @@ module _ (c : Catchment) (old : LentAll) {n : ℕ} {grid : List ℕ}
 
       -- OR ANSWERED BY THE SEARCHES
       module _ (h : length (c .outlets) ≤ length (old .counts)) where
-        told : traceAllNumber c old ≡ numberFor (c .grid) (c .outlets) (length (old .starts))
+        told : traceAllNumber edition c old ≡ numberFor edition (c .grid) (c .outlets) (length (old .starts))
         unfolding firstFailed check20 check21 check23
         told = beyond ∙ rw (
           le-leb (numbersEach * cells) (length (old .work)) w,
@@ -163,10 +175,10 @@ module _ (c : Catchment) (old : LentAll) {n : ℕ} {grid : List ℕ}
         )
 
         pub all-searched : {r : TracedAll} {starts counts work : List ℕ}
-            → SearchesAll (c .grid) (c .outlets) (old .starts) (old .counts) (old .work) r starts counts work
-            → TracesAll c old r (lentAll grid starts counts work)
+            → SearchesAll edition (c .grid) (c .outlets) (old .starts) (old .counts) (old .work) r starts counts work
+            → TracesAll edition c old r (lentAll grid starts counts work)
         all-searched {r} {starts} {counts} {work} q = record {
-          answers = q .answers ∙ ap (tellsAll (c .grid) (c .outlets)) (sym told);
+          answers = q .answers ∙ ap (tellsAll edition (c .grid) (c .outlets)) (sym told);
           leaves = rw (told, full, q .lists, q .counted, q .clears)
-              (either (c .grid) (c .outlets) old (leb (sumOf paths) (length (old .starts))));
+              (either edition (c .grid) (c .outlets) old (leb (sumOf paths) (length (old .starts))));
         }

@@ -24,8 +24,9 @@ use Rattle.alloutlets.specs.AllOutlets.{mostCells}
 use Rattle.moves.proofs.Spots.{size}
 use Rattle.checks.proofs.Passed.{Listed, Sized, sized}
 use Rattle.accumulation.proofs.Subaccumulated.{lengths, good}
-use Rattle.tracing.proofs.Filled.{chosen, ready, in-grid, cells}
-use Rattle.passes.specs.Passes.{Searchable}
+use Rattle.tracing.proofs.Filled.{chosen, fresh, in-grid, cells}
+use Rattle.noting.specs.Noting.{Fresh}
+use Rattle.passes.specs.Passes.{Traceable}
 
 module _ {c : Catchment} (ours : c .grid .table ≡ table1) {old new : List ℕ} {number : ℕ}
     (s : Subaccumulates c old number new) (z : number ≡ 0) where
@@ -65,10 +66,12 @@ module _ {c : Catchment} (ours : c .grid .table ≡ table1) {old new : List ℕ}
     size (sizes .grid .sides),
   )
 
-  pub searchable : {work : List ℕ} → numbersEach * mostCells land (c .outlets) ≤ length work
-      → Searchable (land .rows) (land .cols) (land .codes) (c .outlets) new work
-  searchable {work} r = record {
-    ready = ready c old ours [] passed filled;
+  pub all-fresh : Fresh (land .rows) (land .cols) (land .codes) (c .outlets) new
+  all-fresh = fresh c old ours [] passed filled
+
+  pub traceable : {work : List ℕ} → numbersEach * mostCells land (c .outlets) ≤ length work
+      → Traceable (land .rows) (land .cols) (land .codes) (c .outlets) work
+  traceable {work} r = record {
     chosen = chosen c old ours [] passed;
     few-outlets = list .few-outlets;
     few-cells = made-of (λ g. sumOf (map (subaccumulation g (c .outlets)) (c .outlets)) ≤ 2 ^ 24) few-cells;

@@ -22,7 +22,7 @@ use slices::{Compared, Input, Output};
 
 pub use all_outlets::{AllRooms, AllTraced};
 pub use converting::Conversion;
-pub use tracing::{Ask, Engine, Rooms};
+pub use tracing::{Ask, Engine, Rooms, NO_EDITIONS};
 
 /// The stack on which every entry must do its work.
 const SMALL_STACK: usize = 2 << 20;

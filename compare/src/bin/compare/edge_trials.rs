@@ -52,8 +52,8 @@ pub fn largest_grid(comparison: &mut Comparison, random: &mut Random) {
         let (grid, outlet) = straight_chain(way, 4096);
         let accumulation = grid.ground().accumulation();
         let terrain = terrain(&grid, &accumulation);
-        for dropping in [0, 1] {
-            let ask = Ask { terrain, outlets: &[outlet], place: 0, dropping };
+        for (edition, dropping) in [(1, 0), (2, 1)] {
+            let ask = Ask { edition, terrain, outlets: &[outlet], place: 0, dropping };
             let traced = comparison.trace(Engine::Recursion, ask, rooms);
             assert_eq!(traced.number, 0, "{}", comparison.subject());
         }
@@ -62,17 +62,17 @@ pub fn largest_grid(comparison: &mut Comparison, random: &mut Random) {
             comparison.check_accumulation(terrain);
             comparison.subaccumulate(terrain, &[outlet], grid.cells());
             comparison.flow_lengths(terrain, &[outlet], [grid.cells(); 4]);
-            let ask = Ask { terrain, outlets: &[outlet], place: 0, dropping: 1 };
+            let ask = Ask { edition: 1, terrain, outlets: &[outlet], place: 0, dropping: 1 };
             let traced = comparison.trace(Engine::Stack, ask, rooms);
             comparison.draw(terrain, &[outlet], 0, traced.list[0], 4096);
-            every_sixteenth(comparison, terrain, random);
+            every_sixteenth(comparison, 2, terrain, random);
         }
     }
     comparison.about("4097 cells, entering by neighbour 7".to_string());
     let (grid, outlet) = straight_chain(7, 4097);
     let accumulation = grid.ground().accumulation();
     let terrain = terrain(&grid, &accumulation);
-    let ask = Ask { terrain, outlets: &[outlet], place: 0, dropping: 1 };
+    let ask = Ask { edition: 2, terrain, outlets: &[outlet], place: 0, dropping: 1 };
     let traced = comparison.trace(Engine::Recursion, ask, rooms);
     assert_eq!(traced.number, 19, "{}", comparison.subject());
 }
@@ -96,25 +96,31 @@ pub fn large_arm(comparison: &mut Comparison) {
 }
 
 /// Flow lengths and both engines on one subwatershed, these with and without
-/// dropping; the stack's working space and list are just large enough. The call
-/// for all outlets, which is one, gives what the stack gave with dropping.
+/// dropping; the stack's working space and list are just large enough. Every
+/// headwater is on the divide, so that both editions give the same: each engine
+/// goes by one without dropping and by the other with it, and the call for all
+/// outlets, which is one, gives what the stack gave with dropping.
 fn lengths_and_engines(comparison: &mut Comparison, (grid, outlet): &(Grid, u32), due: u32) {
     let accumulation = grid.ground().accumulation();
     let cells = accumulation[*outlet as usize];
     let terrain = terrain(grid, &accumulation);
     comparison.flow_lengths(terrain, &[*outlet], [grid.cells(); 4]);
-    for dropping in [0, 1] {
-        let ask = Ask { terrain, outlets: &[*outlet], place: 0, dropping };
+    for (dropping, edition, other) in [(0, 1, 2), (1, 2, 1)] {
+        let ask = Ask { edition, terrain, outlets: &[*outlet], place: 0, dropping };
         let rooms = Rooms { grid: grid.cells(), list: 256, work: 3 * cells as usize };
-        let traced = comparison.trace(Engine::Recursion, ask, rooms);
-        assert_eq!(traced.number, due, "{}", comparison.subject());
-        let list = if due == 0 { traced.results[2] as usize } else { rooms.list };
+        let recurred = comparison.trace(Engine::Recursion, ask, rooms);
+        assert_eq!(recurred.number, due, "{}", comparison.subject());
+        let list = if due == 0 { recurred.results[2] as usize } else { rooms.list };
+        let ask = Ask { edition: other, ..ask };
         let traced = comparison.trace(Engine::Stack, ask, Rooms { list, ..rooms });
+        if due == 0 {
+            assert_eq!(traced.results, recurred.results, "{}", comparison.subject());
+        }
         if dropping == 1 {
             let [_, _, paths, visited, dropped] = traced.results;
             let (grid, list) = (rooms.grid, paths as usize);
             let rooms = AllRooms { grid, list, counts: 1, work: rooms.work };
-            let all = comparison.trace_all(terrain, &[*outlet], rooms);
+            let all = comparison.trace_all(edition, terrain, &[*outlet], rooms);
             assert_eq!((all.number, all.sums), (0, [visited, dropped]), "{}", comparison.subject());
             assert_eq!((&all.list[..], all.counts), (&traced.list[..list], vec![paths]));
         }

@@ -7,6 +7,8 @@ mod damages;
 mod larger;
 mod outlets;
 
+use std::cmp::Reverse;
+
 use second_reading::random::Random;
 
 use crate::calls::Comparison;
@@ -38,7 +40,7 @@ pub fn every_small_grid(comparison: &mut Comparison, random: &mut Random) {
                     outlets.push(other as u32);
                 }
                 let start = random.below(cells) as u32;
-                let case = Case::new(&grid, &accumulation, &outlets, 0, start);
+                let case = Case::new(&grid, &accumulation, &outlets, 0, start, random);
                 case.every_entry(comparison, random);
                 if !grid.ground().has_ring() {
                     around_all_needs(comparison, &case, 2, random);
@@ -68,6 +70,28 @@ pub fn many_grids(comparison: &mut Comparison, count: usize, random: &mut Random
     }
 }
 
+/// Trees over the whole of small grids, so that much of a subwatershed is off
+/// its divide: by the mouth alone, and with some cells more.
+pub fn whole_trees(comparison: &mut Comparison, random: &mut Random) {
+    for turn in 0..1500 {
+        let most = if turn % 10 == 0 { 20 } else { 8 };
+        let grid = grounds::tree(random.between(3, most), random.between(3, most), random);
+        comparison.about(format!("{} {} x {}", grid.kind, grid.rows, grid.cols));
+        let accumulation = grid.ground().accumulation();
+        let mut cells: Vec<u32> = grid.ground().solid().map(|cell| cell as u32).collect();
+        cells.sort_by_key(|&cell| Reverse(accumulation[cell as usize]));
+        let mut list = vec![cells.remove(0)];
+        for _ in 0..3 {
+            let place = random.below(list.len());
+            let case = Case::new(&grid, &accumulation, &list, place, list[place], random);
+            case.every_entry(comparison, random);
+            around_needs(comparison, &case, 2, random);
+            around_all_needs(comparison, &case, 4, random);
+            list.push(cells.remove(random.below(cells.len())));
+        }
+    }
+}
+
 /// How many cases are worth trying on a grid of that size.
 fn effort(cells: usize) -> usize {
     match cells {
@@ -86,7 +110,7 @@ fn on_grid(comparison: &mut Comparison, grid: &Grid, random: &mut Random) {
     if grid.ground().has_ring() {
         let accumulation = nearly_agreeing(grid.ground());
         let outlets = vec![random.pick(&solid)];
-        let case = Case::new(grid, &accumulation, &outlets, 0, outlets[0]);
+        let case = Case::new(grid, &accumulation, &outlets, 0, outlets[0], random);
         case.every_entry(comparison, random);
         damaged(comparison, &case, 2 * effort, random);
         return;
@@ -94,7 +118,7 @@ fn on_grid(comparison: &mut Comparison, grid: &Grid, random: &mut Random) {
     let accumulation = grid.ground().accumulation();
     if solid.is_empty() {
         for outlets in [vec![], vec![0], vec![0, 0]] {
-            let case = Case::new(grid, &accumulation, &[], 0, 0);
+            let case = Case::new(grid, &accumulation, &[], 0, 0, random);
             let case = Case { outlets, ..case };
             case.every_entry(comparison, random);
             damaged(comparison, &case, effort, random);
@@ -108,14 +132,14 @@ fn on_grid(comparison: &mut Comparison, grid: &Grid, random: &mut Random) {
         places.dedup();
         places.truncate(effort);
         for place in places {
-            let case = Case::new(grid, &accumulation, &outlets, place, outlets[place]);
+            let case = Case::new(grid, &accumulation, &outlets, place, outlets[place], random);
             case.every_entry(comparison, random);
             around_needs(comparison, &case, effort, random);
             drawings(comparison, &case, effort, random);
         }
         let place = random.below(outlets.len());
         let start = random.pick(&solid);
-        let case = Case::new(grid, &accumulation, &outlets, place, start);
+        let case = Case::new(grid, &accumulation, &outlets, place, start, random);
         around_all_needs(comparison, &case, 7 * effort, random);
         damaged(comparison, &case, 2 * effort, random);
     }

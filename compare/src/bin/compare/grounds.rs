@@ -19,7 +19,7 @@ pub use figures::{comb, fan, serpent};
 pub use grid::{code_of, Grid};
 pub use heights::{basins, drainage, valleys};
 pub use ponds::with_ponds;
-pub use trees::forest;
+pub use trees::{forest, tree};
 
 type Kind = (&'static str, fn(usize, usize, &mut Random) -> Grid);
 

@@ -66,7 +66,7 @@ fn compare_calls(follow: bool) -> ExitCode {
     let begun = Instant::now();
     let mut comparison = Comparison::new(SEED, follow);
     type Part = (&'static str, fn(&mut Comparison, &mut Random));
-    let parts: [Part; 13] = [
+    let parts: [Part; 14] = [
         ("traps", |comparison, _| trap_trials::run(comparison)),
         ("sheets", sheet_trials::run),
         ("every small grid", grid_trials::every_small_grid),
@@ -80,6 +80,7 @@ fn compare_calls(follow: bool) -> ExitCode {
         ("larger grids", grid_trials::larger_grids),
         ("tables of codes", table_trials::run),
         ("the largest grid", edge_trials::largest_grid),
+        ("trees over whole grids", grid_trials::whole_trees),
     ];
     for (place, (name, part)) in parts.into_iter().enumerate() {
         let (calls, begun) = (comparison.tally.calls(), Instant::now());

@@ -1,5 +1,5 @@
-//! How many calls of each number each entry saw, and what was seen of ponds, of drops, of calls for
-//! all outlets and of parts.
+//! How many calls of each number each entry saw, and what was seen of ponds, of drops, of the
+//! divide, of calls for all outlets and of parts.
 
 mod all_outlets;
 mod searches;
@@ -12,7 +12,7 @@ pub use all_outlets::{AllCall, Part};
 pub use searches::Searches;
 pub use sights::Accepted;
 
-const NUMBERS: usize = 25;
+const NUMBERS: usize = 26;
 
 /// The columns of the table.
 #[derive(Clone, Copy, Debug, PartialEq, Eq)]
@@ -79,12 +79,12 @@ impl Entry {
             Entry::Subaccumulate | Entry::FlowLengths => &[0, 10, 11, 12, 14, 15, 16, 17],
             Entry::Convert => &[0, 10, 11, 12, 24],
             Entry::TraceByStack | Entry::TraceByStackDropping => {
-                &[0, 10, 11, 12, 14, 15, 16, 17, 18, 20, 21]
+                &[0, 10, 11, 12, 14, 15, 16, 17, 18, 20, 21, 25]
             }
             Entry::TraceByRecursion | Entry::TraceByRecursionDropping => {
-                &[0, 10, 11, 12, 14, 15, 16, 17, 18, 19, 21]
+                &[0, 10, 11, 12, 14, 15, 16, 17, 18, 19, 21, 25]
             }
-            Entry::TraceAll => &[0, 10, 11, 12, 14, 15, 16, 17, 20, 21, 23],
+            Entry::TraceAll => &[0, 10, 11, 12, 14, 15, 16, 17, 20, 21, 23, 25],
             Entry::StartsOf => &[0],
             Entry::Draw => &[0, 10, 11, 12, 14, 15, 16, 17, 18, 22, 23],
             Entry::ReadSheet => &[0, 1, 2, 3, 4, 5, 6, 7, 8, 9],

@@ -1,6 +1,8 @@
 //! Small grids and single calls with their answers spelled out by hand.
 
 mod all_outlets;
+mod divides;
+mod editions;
 mod limits;
 mod pond_calls;
 mod ponds;
@@ -10,6 +12,7 @@ mod trap;
 
 use crate::calls::{Ask, Comparison, Engine, Rooms};
 use crate::table_trials::every_pair;
+use divides::{DIVIDES, OUTSIDE};
 use limits::LIMITS;
 use ponds::PONDS;
 use single_calls::{refusals, sheets, whole_flow_lengths, whole_subaccumulation};
@@ -17,13 +20,16 @@ use table::TRAPS;
 use trap::Trap;
 
 pub fn run(comparison: &mut Comparison) {
-    for trap in TRAPS.iter().chain(&PONDS).chain(&LIMITS) {
-        comparison.about(format!("trap: {}", trap.name));
-        tracing(comparison, trap);
-        drawing(comparison, trap);
-        flow_lengths(comparison, trap);
-        all_outlets::of_trap(comparison, trap);
-        every_pair(comparison, &trap.grid(), &[]);
+    for trap in TRAPS.iter().chain(&PONDS).chain(&LIMITS).chain(&OUTSIDE) {
+        tracings(comparison, trap, 1);
+        tracings(comparison, trap, 2);
+        other_entries(comparison, trap);
+    }
+    for divide in &DIVIDES {
+        for (edition, trap) in divide.editions() {
+            tracings(comparison, &trap, edition);
+        }
+        other_entries(comparison, &divide.trap);
     }
     whole_subaccumulation(comparison);
     whole_flow_lengths(comparison);
@@ -31,19 +37,37 @@ pub fn run(comparison: &mut Comparison) {
     sheets(comparison);
     pond_calls::ponds(comparison);
     all_outlets::all_outlets(comparison);
+    editions::no_editions(comparison);
 }
 
-fn tracing(comparison: &mut Comparison, trap: &Trap) {
+/// The answers of a trap by an edition, and the paths drawn.
+fn tracings(comparison: &mut Comparison, trap: &Trap, edition: u32) {
+    comparison.about(format!("trap: {}, by edition {edition}", trap.name));
+    tracing(comparison, trap, edition);
+    all_outlets::of_trap(comparison, trap, edition);
+    drawing(comparison, trap);
+}
+
+/// What knows no edition.
+fn other_entries(comparison: &mut Comparison, trap: &Trap) {
+    comparison.about(format!("trap: {}", trap.name));
     let cells = trap.codes.len();
     assert_eq!(comparison.accumulate(trap.rows, trap.cols, trap.codes, cells), 0);
     assert_eq!(comparison.check_accumulation(trap.terrain()), 0, "{}", trap.name);
     assert_eq!(comparison.subaccumulate(trap.terrain(), trap.outlets, cells), 0);
+    flow_lengths(comparison, trap);
+    every_pair(comparison, &trap.grid(), &[]);
+}
+
+fn tracing(comparison: &mut Comparison, trap: &Trap, edition: u32) {
+    let cells = trap.codes.len();
     assert_eq!(trap.answers.len(), trap.outlets.len(), "{}", trap.name);
     for (place, answer) in trap.answers.iter().enumerate() {
         let paths = answer.starts.len();
         for engine in [Engine::Stack, Engine::Recursion] {
             for dropping in [0, 1] {
-                let ask = Ask { terrain: trap.terrain(), outlets: trap.outlets, place, dropping };
+                let (terrain, outlets) = (trap.terrain(), trap.outlets);
+                let ask = Ask { edition, terrain, outlets, place, dropping };
                 let (visited, dropped) = if dropping == 0 {
                     (answer.cells, 0)
                 } else {

@@ -8,10 +8,10 @@ use Rattle.edges.proofs.longest_rows.Statement.{statement}
 use Rattle.edges.proofs.longest_rows.Tie as tie
 
 abbrev Inv-loop : tie.InvT-loop
-Inv-loop codes₀ i₀ codes i = (4096 ≤ i) × (i ≤ 8192) × (length codes ≡ 8192)
+Inv-loop edition codes₀ i₀ codes i = (4096 ≤ i) × (i ≤ 8192) × (length codes ≡ 8192)
 
 abbrev μ-loop : tie.MeasureT-loop
-μ-loop codes₀ i₀ codes i = 8192 - i
+μ-loop edition codes₀ i₀ codes i = 8192 - i
 
 loop-holds : tie.Need-loop-holds Inv-loop μ-loop
 loop-holds c = search needs

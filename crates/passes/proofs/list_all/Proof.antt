@@ -18,18 +18,18 @@ use Rattle.passes.proofs.list_all.Statement.{statement}
 use Rattle.passes.proofs.list_all.Tie as tie
 
 abbrev Inv-loop : tie.InvT-loop
-Inv-loop rows cols codes outlets subaccumulation starts₀ counts₀ work₀ total₀ j₀ starts counts work total j =
-    (j ≤ length outlets) × Listing (gridOf rows cols codes) outlets starts₀ counts₀ j total starts counts
+Inv-loop edition rows cols codes outlets subaccumulation starts₀ counts₀ work₀ total₀ j₀ starts counts work total j =
+    (j ≤ length outlets) × Listing edition (gridOf rows cols codes) outlets starts₀ counts₀ j total starts counts
     × WorkKept (gridOf rows cols codes) outlets work₀ work
 
 abbrev μ-loop : tie.MeasureT-loop
-μ-loop rows cols codes outlets subaccumulation starts₀ counts₀ work₀ total₀ j₀ starts counts work total j =
+μ-loop edition rows cols codes outlets subaccumulation starts₀ counts₀ work₀ total₀ j₀ starts counts work total j =
     length outlets - j
 
 loop-holds : tie.Need-loop-holds Inv-loop μ-loop
 loop-holds c =
     let a = c .before .before .before .before .before .before .args in
-    (omega arith, listing-none (gridOf (a .rows) (a .cols) (a .codes .now)) (a .outlets .now), kept-all)
+    (omega arith, listing-none (a .edition) (gridOf (a .rows) (a .cols) (a .codes .now)) (a .outlets .now), kept-all)
 
 -- the function's start, seen from a turn of the loop; the outlet's starts stay within the list
 abbrev start : tie.In-loop Inv-loop μ-loop → tie.Start Inv-loop μ-loop
@@ -37,12 +37,12 @@ start t = t .before .before .before .before .before .before .before .before
 
 inside : (t : tie.In-loop Inv-loop μ-loop) → let a = start t .args in
     let l = t .before .loop in
-    l .total + pathsTo (gridOf (a .rows) (a .cols) (a .codes .now)) (a .outlets .now) (getD (a .outlets .now) (l .j) 0)
+    l .total + pathsTo (a .edition) (gridOf (a .rows) (a .cols) (a .codes .now)) (a .outlets .now) (getD (a .outlets .now) (l .j) 0)
     ≤ length (l .starts)
 inside t =
     let s = start t in
     let a = s .args in
-    within (gridOf (a .rows) (a .cols) (a .codes .now)) (a .outlets .now) (t .loop-test .taken) (s .pre .1 .0)
+    within (a .edition) (gridOf (a .rows) (a .cols) (a .codes .now)) (a .outlets .now) (t .loop-test .taken) (s .pre .1 .0)
     (t .before .loop .inv .1)
 
 -- from there on it is written
@@ -70,7 +70,7 @@ list-at-requires c κs =
     let l = t .before .loop in
     let s = start t in (
       s .pre .0 .ready,
-      (s .pre .0 .chosen (l .j) (t .loop-test .taken), has-room (s .pre .0) (l .inv .2) (t .loop-test .taken)),
+      ((s .pre .0 .list .chosen (l .j) (t .loop-test .taken), s .pre .0 .met (l .j) (t .loop-test .taken)), has-room (s .pre .0 .list) (l .inv .2) (t .loop-test .taken)),
     )
 
 mul-counts : tie.Need-mul-counts Inv-loop μ-loop
@@ -93,7 +93,7 @@ add-total c =
     let a = s .args in
     omega (
       arith,
-      fits-all (gridOf (a .rows) (a .cols) (a .codes .now)) (a .outlets .now) (t .loop-test .taken) (s .pre .1 .0)
+      fits-all (a .edition) (gridOf (a .rows) (a .cols) (a .codes .now)) (a .outlets .now) (t .loop-test .taken) (s .pre .1 .0)
           (t .before .loop .inv .1),
       m .list-at .ensures .counted .count,
       s .pre .1 .1,
@@ -102,7 +102,7 @@ add-total c =
 add-j : tie.Need-add-j Inv-loop μ-loop
 add-j c =
     let t = turn (c .before .before .before .before .before) in
-    omega (arith, t .loop-test .taken, start t .pre .0 .few-outlets)
+    omega (arith, t .loop-test .taken, start t .pre .0 .list .few-outlets)
 
 loop-less : tie.Need-loop-less Inv-loop μ-loop
 loop-less c = omega (arith, turn (c .before .before .before .before .before) .loop-test .taken)
@@ -115,17 +115,17 @@ loop-again c =
     let s = start t in
     let a = s .args in
     let g = gridOf (a .rows) (a .cols) (a .codes .now) in
-    let cs = startsTo g (a .outlets .now) (getD (a .outlets .now) (l .j) 0) in
+    let cs = startsTo (a .edition) g (a .outlets .now) (getD (a .outlets .now) (l .j) 0) in
     let h = t .loop-test .taken in
     let e = m .before .before .before .index-of .ensures .0 in
     let r = m .list-at .ensures in
-    let long = long-starts g (a .outlets .now) (getD (a .outlets .now) (l .j) 0) in (
+    let long = long-starts (a .edition) g (a .outlets .now) (getD (a .outlets .now) (l .j) 0) in (
       omega (arith, h),
-      listing-more g (a .outlets .now) h (s .pre .1 .0) (l .inv .1) (m .list-at .result .paths)
+      listing-more (a .edition) g (a .outlets .now) h (s .pre .1 .0) (l .inv .1) (m .list-at .result .paths)
           (put-part (l .starts) cs (m .before .before .before .index-of .result) (omega (arith, inside t, e, long))
           (r .lists) ∙ ap (λ (n : ℕ). sets (l .starts) n cs) e)
           (r .counted .count),
-      kept-search (s .pre .0) (l .inv .2) h (r .only),
+      kept-search (s .pre .0 .list) (l .inv .2) h (r .only),
     )
 
 same-length : tie.Need-same-length Inv-loop μ-loop
@@ -145,8 +145,8 @@ returns c =
     let g = gridOf (a .rows) (a .cols) (a .codes .now) in
     let h = c .loop-test .left in
     record {
-      lists = all-listed g (a .outlets .now) h (l .inv .1) (s .pre .1 .0);
-      counted = all-counted g (a .outlets .now) h (l .inv .1) (s .pre .1 .2);
+      lists = all-listed (a .edition) g (a .outlets .now) h (l .inv .1) (s .pre .1 .0);
+      counted = all-counted (a .edition) g (a .outlets .now) h (l .inv .1) (s .pre .1 .2);
       kept = l .inv .2;
     }
 

@@ -1,11 +1,16 @@
 -- The two functions of the cycle meet their contracts. The measure is the number of cells, then the neighbours left.
 -- Assumes nothing.
 use mathlib.Core.Path.{sym, subst}
+use mathlib.Core.List.{List}
 use Prim.Native.Nat.{ℕ, _+_, _-_, _*_, _<_}
 use native.Mathlib.Omega.{arith}
 use lib.ListN.{getD}
 use borrow.Fn.Kinds.{In}
 use borrow.Fn.PlainCycle.{Measures, is, falls, and}
+use Rattle.ground.specs.Compass.{Dir}
+use Rattle.ground.specs.Forest.{Which}
+use Rattle.notes.specs.Notes.{cellsHeld}
+use Rattle.upstream.specs.Ready.{metIn}
 use Rattle.recursion.specs.Tracing.{InflowsReady, InflowsTraced}
 use Rattle.recursion.proofs.Cell.{cells-read, has-place, has-room, inflows-ready, cell-traced}
 use Rattle.recursion.proofs.Inflows.{inflows-done, fewer, small-cells, small-len, cells-lent, testable}
@@ -24,13 +29,18 @@ use Rattle.recursion.proofs.visit_at.Reads as visit-at-reads
 use Rattle.recursion.proofs.+trace_cell+trace_inflows.{statement}
 use Rattle.recursion.proofs.+trace_cell+trace_inflows.Tie.{close}
 
+-- the cells that the word of a cell holds
+abbrev cells-at : List ℕ → ℕ → ℕ
+cells-at words x = cellsHeld (getD words x 0)
+
 abbrev μ-trace-cell : Measures 4 trace-cell-kinds.ps ℕ
-μ-trace-cell κs a = getD (a .1 .1 .1 .1 .0 .now)
-    (a .1 .1 .1 .1 .1 .1 .0 * a .1 .0 + a .1 .1 .1 .1 .1 .1 .1 .0) 0 * 10 + 9
+μ-trace-cell κs a = cells-at (a .1 .1 .1 .1 .0 .now)
+    (a .1 .1 .1 .1 .1 .1 .1 .0 * a .1 .0 + a .1 .1 .1 .1 .1 .1 .1 .1 .0) * 10 + 9
 
 abbrev μ-trace-inflows : Measures 4 trace-inflows-kinds.ps ℕ
-μ-trace-inflows κs a = getD (a .1 .1 .1 .1 .0 .now) (a .1 .1 .1 .1 .1 .1 .0 * a .1 .0 + a .1 .1 .1 .1 .1 .1 .1 .0)
-    0 * 10 + (8 - a .1 .1 .1 .1 .1 .1 .1 .1 .1 .0)
+μ-trace-inflows κs a = cells-at (a .1 .1 .1 .1 .0 .now)
+    (a .1 .1 .1 .1 .1 .1 .1 .0 * a .1 .0 + a .1 .1 .1 .1 .1 .1 .1 .1 .0) * 10
+    + (8 - a .1 .1 .1 .1 .1 .1 .1 .1 .1 .1 .0)
 
 module _ (t : ℕ) where
   -- ---- what is known of the calls: those of the cycle measure less than t
@@ -67,6 +77,10 @@ module _ (t : ℕ) where
     trace-cell.Post,
   )
 
+  -- where a length is met, as the words tell
+  abbrev met-in : trace-inflows-lts.Start in-inflows trace-inflows-at trace-inflows.Post → Which Dir
+  met-in s = metIn (s .args .edition) (s .args .subaccumulation .now)
+
   -- ---- tracing a cell
 
   cell-visit-requires : trace-cell-lts.Need-visit-at-requires in-cell trace-cell-at trace-cell.Post
@@ -86,7 +100,7 @@ module _ (t : ℕ) where
       let v = c .before .before .visit-at in
       let i = c .trace-inflows in
       cell-traced (s .pre .1 .0) (s .pre .1 .1) (v .ensures) (s .args .dropping) (i .result)
-      (i .last .1 .1 .1 .1 .1 .1 .1 .1 .1 .1 .1 .0) (i .ensures)
+      (i .last .1 .1 .1 .1 .1 .1 .1 .1 .1 .1 .1 .1 .0) (i .ensures)
 
   -- ---- tracing its inflows
 
@@ -105,7 +119,7 @@ module _ (t : ℕ) where
   inflows-returns c =
       let n = c .before .before in
       let s = n .before .before .before .before in
-      inflows-done (s .pre .1 .0) (s .args .dropping) (s .pre .1 .1) (n .next-turn .ensures) (c .if1 .taken)
+      inflows-done (s .pre .1 .0) (met-in s) (s .args .dropping) (s .pre .1 .1) (n .next-turn .ensures) (c .if1 .taken)
 
   add-left : trace-inflows-lts.Need-add-left in-inflows trace-inflows-at trace-inflows.Post
   add-left c = let n = c .before .before .before in omega (arith, n .next-turn .ensures .last)
@@ -115,7 +129,7 @@ module _ (t : ℕ) where
       let e = c .before in
       let n = e .before .before in
       let s = n .before .before .before .before in
-      let small = small-len (s .pre .1 .0) (s .args .dropping) (s .pre .1 .1) (n .next-turn .ensures) (e .if1 .left) in
+      let small = small-len (s .pre .1 .0) (met-in s) (s .args .dropping) (s .pre .1 .1) (n .next-turn .ensures) (e .if1 .left) in
       (omega (arith, small), omega (arith, small))
 
   is-dropped-requires : trace-inflows-lts.Need-is-dropped-requires in-inflows trace-inflows-at trace-inflows.Post
@@ -123,7 +137,7 @@ module _ (t : ℕ) where
       let e = c .before .before in
       let n = e .before .before in
       let s = n .before .before .before .before in
-      testable (s .pre .1 .0) (s .args .dropping) (s .pre .1 .1) (n .next-turn .ensures) (e .if1 .left)
+      testable (s .pre .1 .0) (met-in s) (s .args .dropping) (s .pre .1 .1) (n .next-turn .ensures) (e .if1 .left)
       (c .plus .ensures)
 
   drop-cells-requires : trace-inflows-lts.Need-drop-cells-requires in-inflows trace-inflows-at trace-inflows.Post
@@ -133,7 +147,7 @@ module _ (t : ℕ) where
       let s = n .before .before .before .before in
       omega (
         arith,
-        small-cells (s .pre .1 .0) (s .args .dropping) (s .pre .1 .1) (n .next-turn .ensures)
+        small-cells (s .pre .1 .0) (met-in s) (s .args .dropping) (s .pre .1 .1) (n .next-turn .ensures)
             (e .if1 .left),
       )
 
@@ -150,7 +164,7 @@ module _ (t : ℕ) where
           s .pre .1 .0,
           subst (λ q. InflowsReady (a .rows) (a .cols) (a .codes .now) (a .outlets .now) (a .row) (a .col)
               (a .len) (n .next-turn .result .k + 1) q (a .found .now)) (sym (d .drop-cells .ensures))
-              (drop-ready (s .pre .1 .0) (a .dropping) (s .pre .1 .1) (n .next-turn .ensures) (e .if1 .left)
+              (drop-ready (s .pre .1 .0) (met-in s) (a .dropping) (s .pre .1 .1) (n .next-turn .ensures) (e .if1 .left)
               (p .plus .ensures) (d .before .before .is-dropped .ensures)),
         ),
       )
@@ -164,12 +178,12 @@ module _ (t : ℕ) where
       let s = n .before .before .before .before in
       let a = s .args in
       let i = c .trace-inflows in
-      drop-traced (s .pre .1 .0) (a .dropping) (s .pre .1 .1) (n .next-turn .ensures) (e .if1 .left) (p .plus .ensures)
+      drop-traced (s .pre .1 .0) (met-in s) (a .dropping) (s .pre .1 .1) (n .next-turn .ensures) (e .if1 .left) (p .plus .ensures)
       (d .before .before .is-dropped .ensures) (d .before .if2 .taken) (i .result)
-      (i .last .1 .1 .1 .1 .1 .1 .1 .1 .1 .1 .1 .0)
-      (subst (λ q. InflowsTraced (a .rows) (a .cols) (a .codes .now) (a .outlets .now) (a .dropping) (a .row) (a .col)
+      (i .last .1 .1 .1 .1 .1 .1 .1 .1 .1 .1 .1 .1 .0)
+      (subst (λ q. InflowsTraced (a .rows) (a .cols) (a .codes .now) (a .outlets .now) (met-in s) (a .dropping) (a .row) (a .col)
       (a .len) (n .next-turn .result .k + 1) q (a .found .now) (i .result)
-      (i .last .1 .1 .1 .1 .1 .1 .1 .1 .1 .1 .1 .0))
+      (i .last .1 .1 .1 .1 .1 .1 .1 .1 .1 .1 .1 .1 .0))
       (d .drop-cells .ensures) (i .ensures))
 
   traced-requires : trace-inflows-lts.Need-trace-cell-requires in-inflows trace-inflows-at trace-inflows.Post
@@ -185,13 +199,13 @@ module _ (t : ℕ) where
         omega (
           arith,
           s .pre .0,
-          fewer ready (a .dropping) here (n .next-turn .ensures) (e .if1 .left),
-          cells-lent ready (a .dropping) here (n .next-turn .ensures) (e .if1 .left),
+          fewer ready (met-in s) (a .dropping) here (n .next-turn .ensures) (e .if1 .left),
+          cells-lent ready (met-in s) (a .dropping) here (n .next-turn .ensures) (e .if1 .left),
           cells-read ready (a .row) (a .col) (here .row-in) (here .col-in),
         ),
         (
           ready,
-          cell-ready ready (a .dropping) here (n .next-turn .ensures) (e .if1 .left) (p .plus .ensures)
+          cell-ready ready (met-in s) (a .dropping) here (n .next-turn .ensures) (e .if1 .left) (p .plus .ensures)
               (d .before .is-dropped .ensures) (d .if2 .left),
         ),
       )
@@ -208,7 +222,7 @@ module _ (t : ℕ) where
         omega (arith, s .pre .0, n .next-turn .ensures .from, e .if1 .left),
         (
           s .pre .1 .0,
-          rest-ready (s .pre .1 .0) (a .dropping) (s .pre .1 .1) (n .next-turn .ensures) (e .if1 .left)
+          rest-ready (s .pre .1 .0) (met-in s) (a .dropping) (s .pre .1 .1) (n .next-turn .ensures) (e .if1 .left)
               (p .plus .ensures) (d .before .is-dropped .ensures) (d .if2 .left) (q .ensures),
         ),
       )
@@ -223,9 +237,9 @@ module _ (t : ℕ) where
       let n = e .before .before in
       let s = n .before .before .before .before in
       let a = s .args in
-      rest-traced (s .pre .1 .0) (a .dropping) (s .pre .1 .1) (n .next-turn .ensures) (e .if1 .left) (p .plus .ensures)
+      rest-traced (s .pre .1 .0) (met-in s) (a .dropping) (s .pre .1 .1) (n .next-turn .ensures) (e .if1 .left) (p .plus .ensures)
       (d .before .is-dropped .ensures) (d .if2 .left) (q .ensures) (i .result)
-      (i .last .1 .1 .1 .1 .1 .1 .1 .1 .1 .1 .1 .0) (i .ensures)
+      (i .last .1 .1 .1 .1 .1 .1 .1 .1 .1 .1 .1 .1 .0) (i .ensures)
 
 pub +trace-cell+trace-inflows-spec : {M : Type 1} → statement M
 +trace-cell+trace-inflows-spec = close μ-trace-cell μ-trace-inflows

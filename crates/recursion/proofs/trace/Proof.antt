@@ -1,6 +1,7 @@
 -- `recursion::trace` meets its contract: the search enters the outlet.
 -- Assumes nothing.
 use borrow.Author.Needs.{needs}
+use Rattle.upstream.specs.Ready.{metIn}
 use Rattle.recursion.specs.Tracing.{CellReady}
 use Rattle.recursion.proofs.Cell.{has-place, has-room, inflows-ready, cell-traced, outlet-ready, traced}
 use Rattle.recursion.proofs.trace.Statement.{statement}
@@ -39,9 +40,9 @@ returns c =
     let b = c .before .before .before .before in
     let s = start b in
     let i = c .trace-inflows in
-    let new = i .last .1 .1 .1 .1 .1 .1 .1 .1 .1 .1 .1 .0 in
-    traced (s .pre .0) (s .pre .1 .0) (b .begin .ensures) (b .before .none .ensures) (s .args .dropping)
-    (s .args .found .now) (i .result) new
+    let new = i .last .1 .1 .1 .1 .1 .1 .1 .1 .1 .1 .1 .1 .0 in
+    traced (s .pre .0) (s .pre .1 .0) (b .begin .ensures) (b .before .none .ensures)
+    (metIn (s .args .edition) (s .args .subaccumulation .now)) (s .args .dropping) (s .args .found .now) (i .result) new
     (cell-traced (s .pre .0) (cell b) (c .before .before .visit-at .ensures) (s .args .dropping) (i .result) new
     (i .ensures))
 

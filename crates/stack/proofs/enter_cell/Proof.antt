@@ -1,5 +1,6 @@
 -- `stack::enter_cell` meets its contract.
 -- Assumes nothing.
+use mathlib.Core.Path.{_∙_}
 use native.Mathlib.Omega.{arith}
 use Rattle.stack.proofs.Climbing.{indexed, read}
 use Rattle.stack.proofs.Entering.{room, entered}
@@ -13,35 +14,44 @@ mul-at c = let s = c .before .before .before .before in omega (arith, indexed (s
 add-at : tie.Need-add-at
 add-at c = let s = c .before .before .before .before in omega (arith, indexed (s .pre .0) (s .pre .1 .0))
 
-mul-n : tie.Need-mul-n
-mul-n c = let s = c .before .before .before .before in omega (arith, indexed (s .pre .0) (s .pre .1 .0))
+mul-word : tie.Need-mul-word
+mul-word c = let s = c .before .before .before .before in omega (arith, indexed (s .pre .0) (s .pre .1 .0))
 
-shared-slice-read-n : tie.Need-shared-slice-read-n
-shared-slice-read-n c = let s = c .before .before .before .before .before in
+shared-slice-read-word : tie.Need-shared-slice-read-word
+shared-slice-read-word c = let s = c .before .before .before .before .before in
     omega (arith, indexed (s .pre .0) (s .pre .1 .0))
+
+cells-held-requires : tie.Need-cells-held-requires
+cells-held-requires c κs = search needs
 
 cast-visit : tie.Need-cast-visit
-cast-visit c = let s = c .before .before .before .before .before .before in
+cast-visit c = let s = c .before .before .before .before .before .before .before in
     omega (arith, indexed (s .pre .0) (s .pre .1 .0))
 
+is-met-requires : tie.Need-is-met-requires
+is-met-requires c κs = search needs
+
 visit-requires : tie.Need-visit-requires
-visit-requires c κs = let s = c .before .before .before .before .before .before in
+visit-requires c κs = let s = c .before .before .before .before .before .before .before .before in
     room (s .pre .0) (s .pre .1 .0) (s .pre .1 .1)
 
 climb-requires : tie.Need-climb-requires
 climb-requires c κs =
-    let s = c .before .before .before .before .before .before .before .before .before .before in (
+    let v = c .before .before .before in
+    let w = v .before .before .before in
+    let s = w .before .before .before .before .before .before in
+    let n = w .cells-held .ensures ∙ read (s .pre .0) (s .pre .1 .0) in (
       s .pre .0,
       (
         s .pre .1 .0,
         (
-          read (s .pre .0) (s .pre .1 .0),
+          n,
           omega (
             arith,
-            read (s .pre .0) (s .pre .1 .0),
+            n,
             s .pre .1 .1 .room,
             s .pre .1 .1 .within,
-            c .before .before .before .visit .kept .0,
+            v .visit .kept .0,
           ),
           s .pre .1 .1 .short,
         ),
@@ -53,9 +63,11 @@ same-length c = search needs
 
 returns : tie.Need-returns
 returns c =
-    let s = c .before .before .before .before .before .before .before .before .before .before .before .before .before in
-    entered (s .pre .0) (s .pre .1 .0) (s .pre .1 .1) (read (s .pre .0) (s .pre .1 .0))
-    (c .before .before .before .before .before .before .visit .ensures) (c .before .before .climb .ensures)
+    let v = c .before .before .before .before .before .before in
+    let m = v .before in
+    let s = m .before .before .before .before .before .before .before .before in
+    entered (s .pre .0) (s .pre .1 .0) (s .pre .1 .1) (s .args .edition) (rw (m .is-met .ensures) at (v .visit .ensures))
+    (c .before .before .climb .ensures)
 
 pub enter-cell-spec : {M : Type 1} → statement M
 enter-cell-spec =
@@ -63,9 +75,11 @@ enter-cell-spec =
     (tie.spec
     mul-at
     add-at
-    mul-n
-    shared-slice-read-n
+    mul-word
+    shared-slice-read-word
+    cells-held-requires
     cast-visit
+    is-met-requires
     visit-requires
     climb-requires
     same-length

@@ -8,6 +8,7 @@ use borrow.Author.Needs.{needs}
 use Rattle.ground.specs.Grid.{gridOf}
 use Rattle.ground.specs.Accumulation.{subaccumulation}
 use Rattle.progress.specs.Starts.{stateOf}
+use Rattle.upstream.specs.Ready.{metIn}
 use Rattle.stack.specs.Pending.{pending}
 use Rattle.stack.specs.Draining.{cellsPending, Standing, drain}
 use Rattle.stack.proofs.Climbing.{indexed, read, small-cells}
@@ -16,41 +17,45 @@ use Rattle.stack.proofs.trace.Statement.{statement}
 use Rattle.stack.proofs.trace.Tie as tie
 
 abbrev Inv-loop : tie.InvT-loop
-Inv-loop rows cols codes outlets subaccumulation dropping row col work₀ end s₀ work s =
+Inv-loop rows cols codes outlets subaccumulation edition dropping row col work₀ end s₀ work s =
     (length work ≡ length work₀)
     × Standing (gridOf rows cols codes) outlets end s work
-    × (drain (gridOf rows cols codes) outlets dropping (pending work (s .top)) (stateOf (s .progress) work end)
-    ≡ drain (gridOf rows cols codes) outlets dropping (pending work₀ (s₀ .top)) (stateOf (s₀ .progress) work₀ end))
+    × (drain (gridOf rows cols codes) outlets (metIn edition subaccumulation) dropping (pending work (s .top)) (stateOf (s .progress) work end)
+    ≡ drain (gridOf rows cols codes) outlets (metIn edition subaccumulation) dropping (pending work₀ (s₀ .top)) (stateOf (s₀ .progress) work₀ end))
     × ((i : ℕ) → end ≤ i → getD work i 0 ≡ getD work₀ i 0)
 
 abbrev μ-loop : tie.MeasureT-loop
-μ-loop rows cols codes outlets subaccumulation dropping row col work₀ end s₀ work s =
+μ-loop rows cols codes outlets subaccumulation edition dropping row col work₀ end s₀ work s =
     cellsPending (gridOf rows cols codes) outlets (pending work (s .top))
 
 -- three numbers for each cell
 abbrev start : tie.After-index-of Inv-loop μ-loop → tie.Start Inv-loop μ-loop
-start c = c .before .before .before .before .before .before
+start c = c .before .before .before .before .before .before .before
 
 end-is : (c : tie.After-index-of Inv-loop μ-loop) → 3 * c .index-of .result ≡ 3 * subaccumulation
     (gridOf (start c .args .rows) (start c .args .cols) (start c .args .codes .now)) (start c .args .outlets .now)
     (start c .args .row * start c .args .cols + start c .args .col)
-end-is c = ap (λ (n : ℕ). 3 * n) (c .index-of .ensures .0 ∙ read (start c .pre .0) (start c .pre .1 .0))
+end-is c = ap (λ (n : ℕ). 3 * n)
+    (c .index-of .ensures .0 ∙ c .before .cells-held .ensures ∙ read (start c .pre .0) (start c .pre .1 .0))
 
-mul-index-of : tie.Need-mul-index-of Inv-loop μ-loop
-mul-index-of c = let s = c .before .before .before .before in
+mul-cells-held : tie.Need-mul-cells-held Inv-loop μ-loop
+mul-cells-held c = let s = c .before .before .before .before in
     omega (arith, indexed (s .pre .0) (s .pre .1 .0))
 
-add-index-of : tie.Need-add-index-of Inv-loop μ-loop
-add-index-of c = let s = c .before .before .before .before in
+add-cells-held : tie.Need-add-cells-held Inv-loop μ-loop
+add-cells-held c = let s = c .before .before .before .before in
     omega (arith, indexed (s .pre .0) (s .pre .1 .0))
 
-mul-index-of-2 : tie.Need-mul-index-of-2 Inv-loop μ-loop
-mul-index-of-2 c = let s = c .before .before .before .before in
+mul-cells-held-2 : tie.Need-mul-cells-held-2 Inv-loop μ-loop
+mul-cells-held-2 c = let s = c .before .before .before .before in
     omega (arith, indexed (s .pre .0) (s .pre .1 .0))
 
-shared-slice-read-index-of : tie.Need-shared-slice-read-index-of Inv-loop μ-loop
-shared-slice-read-index-of c = let s = c .before .before .before .before .before in
+shared-slice-read-cells-held : tie.Need-shared-slice-read-cells-held Inv-loop μ-loop
+shared-slice-read-cells-held c = let s = c .before .before .before .before .before in
     omega (arith, indexed (s .pre .0) (s .pre .1 .0))
+
+cells-held-requires : tie.Need-cells-held-requires Inv-loop μ-loop
+cells-held-requires c κs = search needs
 
 index-of-requires : tie.Need-index-of-requires Inv-loop μ-loop
 index-of-requires c κs = search needs
@@ -84,15 +89,14 @@ loop-holds c =
       refl,
       outlet-stands (s .pre .0) (s .pre .1 .0) (end-is i) (c .before .before .before .before .begin .ensures)
           (c .before .before .before .before .before .none .ensures) (e .ensures)
-          (omega (arith, end-is i, s .pre .1 .1, e .kept .1 .1 .1 .1 .1 .1 .1 .1 .1 .1 .1 .0)),
+          (omega (arith, end-is i, s .pre .1 .1, e .kept .1 .1 .1 .1 .1 .1 .1 .1 .1 .1 .1 .1 .0)),
       refl,
       λ k h. refl,
     )
 
 turn-requires : tie.Need-turn-requires Inv-loop μ-loop
 turn-requires c κs = (
-  c .before .before .before .before .before .before .before .before .before .before .before
-      .before .before .before .before .before .pre .0,
+  start (c .before .before .before .before .before .before .before .before .before .before) .pre .0,
   (c .before .before .before .loop .inv .1, c .before .if1 .taken),
 )
 
@@ -103,7 +107,7 @@ loop-again : tie.Need-loop-again Inv-loop μ-loop
 loop-again c =
     let l = c .before .before .before .before .before .before .loop in
     let t = c .before .before .turn in (
-      t .kept .1 .1 .1 .1 .1 .1 .1 .1 .0 ∙ l .inv .0,
+      t .kept .1 .1 .1 .1 .1 .1 .1 .1 .1 .0 ∙ l .inv .0,
       t .ensures .standing,
       drains-on (t .ensures) (l .inv .2),
       λ i h. t .ensures .beyond i h ∙ l .inv .3 i h,
@@ -111,7 +115,7 @@ loop-again c =
 
 same-length : tie.Need-same-length Inv-loop μ-loop
 same-length c = c .before .before .before .loop .inv .0
-    ∙ c .before .before .before .before .before .before .enter-outlet .kept .1 .1 .1 .1 .1 .1 .1 .1 .1 .1 .1 .0
+    ∙ c .before .before .before .before .before .before .enter-outlet .kept .1 .1 .1 .1 .1 .1 .1 .1 .1 .1 .1 .1 .0
 
 returns : tie.Need-returns Inv-loop μ-loop
 returns c =
@@ -119,7 +123,8 @@ returns c =
     let e = c .before .before .before .before .before .before .enter-outlet in
     let i = c .before .before .before .before .before .before .before .before .before .before in
     let s = start i in
-    traced (s .pre .0) (s .pre .1 .0) (end-is i) (s .args .dropping) (s .args .work .now) (l .inv .1) (omega arith)
+    traced (s .pre .0) (s .pre .1 .0) (end-is i) (metIn (s .args .edition) (s .args .subaccumulation .now))
+    (s .args .dropping) (s .args .work .now) (l .inv .1) (omega arith)
     (l .inv .2 ∙ outlet-drains (s .pre .0) (s .pre .1 .0) (end-is i)
     (c .before .before .before .before .before .before .before .before .begin .ensures)
     (c .before .before .before .before .before .before .before .before .before .none .ensures) (e .ensures)
@@ -131,10 +136,11 @@ trace-spec =
     (tie.spec
     Inv-loop
     μ-loop
-    mul-index-of
-    add-index-of
-    mul-index-of-2
-    shared-slice-read-index-of
+    mul-cells-held
+    add-cells-held
+    mul-cells-held-2
+    shared-slice-read-cells-held
+    cells-held-requires
     index-of-requires
     mul-end
     none-requires

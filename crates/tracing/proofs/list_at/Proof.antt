@@ -7,6 +7,7 @@ use native.Mathlib.Omega.{arith}
 use lib.ListN.{getD}
 use borrow.Author.Needs.{needs}
 use Rattle.lists.specs.Slices.{overlaid}
+use Rattle.notes.specs.Notes.{cellsHeld}
 use Rattle.tracing.specs.Answering.{cellsOf, tracingAt, Told}
 use Rattle.tracing.proofs.Searching.{own-cells}
 use Rattle.tracing.proofs.list_at.Statement.{statement}
@@ -21,13 +22,16 @@ shared-slice-read-index-of c = search needs
 index-of-requires : tie.Need-index-of-requires
 index-of-requires c κs = search needs
 
-mul-index-of-2 : tie.Need-mul-index-of-2
-mul-index-of-2 c = search needs
+mul-cells-held : tie.Need-mul-cells-held
+mul-cells-held c = search needs
 
-shared-slice-read-index-of-2 : tie.Need-shared-slice-read-index-of-2
-shared-slice-read-index-of-2 c =
+shared-slice-read-cells-held : tie.Need-shared-slice-read-cells-held
+shared-slice-read-cells-held c =
     let s = c .before .before .before .before .before .before .before .before in
-    omega (arith, c .before .index-of .ensures .0, own-cells (s .pre .0) (s .pre .1 .0) .0)
+    omega (arith, c .before .index-of .ensures .0, own-cells (s .pre .0) (s .pre .1 .0 .0) .0)
+
+cells-held-requires : tie.Need-cells-held-requires
+cells-held-requires c κs = search needs
 
 index-of-requires-2 : tie.Need-index-of-requires-2
 index-of-requires-2 c κs = search needs
@@ -36,11 +40,11 @@ mul-end : tie.Need-mul-end
 mul-end c = search needs
 
 search-at-requires : tie.Need-search-at-requires
-search-at-requires c κs = c .before .before .before .before .before .before .before .before .before .before .pre
+search-at-requires c κs = c .before .before .before .before .before .before .before .before .before .before .before .pre
 
 -- the function's start, seen from after the search; the cells of the outlet, as the code has them
 abbrev start : tie.After-search-at → tie.Start
-start t = t .before .before .before .before .before .before .before .before .before .before .before
+start t = t .before .before .before .before .before .before .before .before .before .before .before .before
 
 abbrev cells : tie.After-search-at → ℕ
 cells t = t .before .before .index-of2 .result
@@ -49,19 +53,20 @@ own : (t : tie.After-search-at) → let a = start t .args in
     cells t ≡ cellsOf (a .rows) (a .cols) (a .codes .now) (a .outlets .now) (a .place)
 own t =
     let s = start t in
-    t .before .before .index-of2 .ensures .0
-    ∙ ap (λ (x : ℕ). getD (s .args .subaccumulation .now) x 0) (t .before .before .before .before .index-of .ensures .0)
-    ∙ own-cells (s .pre .0) (s .pre .1 .0) .1
+    t .before .before .index-of2 .ensures .0 ∙ t .before .before .before .cells-held .ensures
+    ∙ ap (λ (x : ℕ). cellsHeld (getD (s .args .subaccumulation .now) x 0))
+    (t .before .before .before .before .before .index-of .ensures .0)
+    ∙ own-cells (s .pre .0) (s .pre .1 .0 .0) .1
 
 -- what was found, in as many working numbers
 found : (t : tie.After-search-at) → let a = start t .args in
-    Told (tracingAt (a .rows) (a .cols) (a .codes .now) (a .outlets .now) (a .place) (a .dropping)) (cells t)
-    (a .work .now) (t .search-at .result) (t .search-at .last .1 .1 .1 .1 .1 .1 .1 .0)
+    Told (tracingAt (a .rows) (a .cols) (a .codes .now) (a .outlets .now) (a .place) (a .edition) (a .dropping)) (cells t)
+    (a .work .now) (t .search-at .result) (t .search-at .last .1 .1 .1 .1 .1 .1 .1 .1 .0)
 found t =
     let a = start t .args in
     subst (λ (n : ℕ). Told
-    (tracingAt (a .rows) (a .cols) (a .codes .now) (a .outlets .now) (a .place) (a .dropping)) n (a .work .now)
-    (t .search-at .result) (t .search-at .last .1 .1 .1 .1 .1 .1 .1 .0)) (sym (own t)) (t .search-at .ensures)
+    (tracingAt (a .rows) (a .cols) (a .codes .now) (a .outlets .now) (a .place) (a .edition) (a .dropping)) n (a .work .now)
+    (t .search-at .result) (t .search-at .last .1 .1 .1 .1 .1 .1 .1 .1 .0)) (sym (own t)) (t .search-at .ensures)
 
 list-starts-requires : tie.Need-list-starts-requires
 list-starts-requires c κs =
@@ -96,8 +101,9 @@ list-at-spec =
     mul-index-of
     shared-slice-read-index-of
     index-of-requires
-    mul-index-of-2
-    shared-slice-read-index-of-2
+    mul-cells-held
+    shared-slice-read-cells-held
+    cells-held-requires
     index-of-requires-2
     mul-end
     search-at-requires

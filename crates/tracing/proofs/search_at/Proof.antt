@@ -21,8 +21,8 @@ trace-requires c κs =
     let e = c .before .split-number .ensures in (
       s .pre .0,
       (
-        at-outlet (s .pre .0) (s .pre .1 .0) e,
-        omega (arith, cells-there (s .pre .0) (s .pre .1 .0) e, s .pre .1 .1),
+        at-outlet (s .pre .0) (s .pre .1 .0 .0) e,
+        omega (arith, cells-there (s .pre .0) (s .pre .1 .0 .0) e, s .pre .1 .1),
       ),
     )
 
@@ -34,15 +34,15 @@ returns c =
     let t = c .before .before in
     let s = t .before .before .before .before .before .before .before .before in
     let e = t .before .before .split-number .ensures in
-    let q = searched-within (s .pre .0) (s .pre .1 .0) e (t .trace .ensures .searched) in
+    let q = searched-within (s .pre .0) (s .pre .1 .0 .0) e (t .trace .ensures .searched) in
     record {
-      counted = counted (s .pre .0) (s .pre .1 .0) q;
-      starts = starts-are (s .pre .0) (s .pre .1 .0) q;
+      counted = counted (s .pre .0) (s .pre .1 .0 .0) (s .args .edition) (s .pre .1 .0 .1) q;
+      starts = starts-are (s .pre .0) (s .pre .1 .0 .0) (s .args .edition) (s .pre .1 .0 .1) q;
       all-cells = q .all-cells;
       few-paths = q .few-paths;
       only = record {
-        same-length = t .trace .kept .1 .1 .1 .1 .1 .1 .1 .1 .0;
-        rest = λ x h. t .trace .ensures .beyond x (omega (arith, h, cells-there (s .pre .0) (s .pre .1 .0) e));
+        same-length = t .trace .kept .1 .1 .1 .1 .1 .1 .1 .1 .1 .0;
+        rest = λ x h. t .trace .ensures .beyond x (omega (arith, h, cells-there (s .pre .0) (s .pre .1 .0 .0) e));
       };
     }
 

@@ -1,51 +1,75 @@
 -- `tracing::trace_by_recursion` meets its contract.
 -- Assumes nothing.
-use mathlib.Core.Path.{refl}
+use mathlib.Core.Path.{_≡_, refl, sym, _∙_}
+use mathlib.Core.Bool.{true}
 use native.Mathlib.Omega.{arith}
 use borrow.Author.Needs.{needs}
+use borrow.Author.Tests.{not-true, not-false}
+use Rattle.search.specs.Editions.{isEdition}
 use Rattle.answers.specs.Tracings.{Call, callOf, Lent, lent}
-use Rattle.tracing.proofs.Filled.{prepared-ready, prepared-chosen}
-use Rattle.tracing.proofs.Deciding.{recursion-first, recursion-19, recursion-whole}
+use Rattle.tracing.proofs.Filled.{prepared-fresh, prepared-chosen}
+use Rattle.tracing.proofs.Deciding.{recursion-25, recursion-first, recursion-19, recursion-whole}
 use Rattle.tracing.proofs.trace_by_recursion.Statement.{statement}
 use Rattle.tracing.proofs.trace_by_recursion.Tie as tie
 
--- the function's start, seen from after the preparation; the call, and what it is lent
-abbrev start : tie.After-prepare → tie.Start
-start p = p .before .before .before .before .before .before .before
+-- the function's start, seen from where the edition is judged; the call, and what it is lent
+abbrev start : tie.After-is-edition → tie.Start
+start e = e .before .before .before .before .before .before
 
-abbrev call : tie.After-prepare → Call
-call p =
-    let a = start p .args in
-    callOf (a .rows) (a .cols) (a .codes .now) (a .accumulation .now) (a .outlets .now) (a .place) (a .dropping)
+abbrev call : tie.After-is-edition → Call
+call e =
+    let a = start e .args in
+    callOf (a .edition) (a .rows) (a .cols) (a .codes .now) (a .accumulation .now) (a .outlets .now) (a .place)
+    (a .dropping)
 
-abbrev given : tie.After-prepare → Lent
-given p = lent (start p .args .subaccumulation .now) (start p .args .starts .now)
+abbrev given : tie.After-is-edition → Lent
+given e = lent (start e .args .subaccumulation .now) (start e .args .starts .now)
 
-prepare-requires : tie.Need-prepare-requires
-prepare-requires c κs = search needs
+-- and that place, seen from after the preparation
+abbrev first : tie.After-prepare → tie.After-is-edition
+first p = p .before .before .before
+
+judged : (p : tie.After-prepare) → isEdition (start (first p) .args .edition) ≡ true
+judged p = sym (first p .is-edition .ensures) ∙ not-false _ (p .before .before .if1 .left)
+
+is-edition-requires : tie.Need-is-edition-requires
+is-edition-requires c κs = search needs
 
 refused-requires : tie.Need-refused-requires
 refused-requires c κs = search needs
 
-same-length : tie.Need-same-length
-same-length c = search needs
-
 returns : tie.Need-returns
 returns c =
-    let p = c .before .before .before .before in
-    recursion-first (call p) (given p) (p .prepare .ensures) (c .before .if1 .taken) (c .refused .ensures)
+    let e = c .before .before in
+    recursion-25 (call e) (given e) (sym (e .is-edition .ensures) ∙ not-true _ (c .before .if1 .taken)) (c .refused .ensures)
+
+prepare-requires : tie.Need-prepare-requires
+prepare-requires c κs = search needs
 
 refused-requires-2 : tie.Need-refused-requires-2
 refused-requires-2 c κs = search needs
 
-same-length-2 : tie.Need-same-length-2
-same-length-2 c = search needs
+same-length : tie.Need-same-length
+same-length c = search needs
 
 returns-2 : tie.Need-returns-2
 returns-2 c =
+    let p = c .before .before .before .before in
+    recursion-first (call (first p)) (given (first p)) (judged p) (p .prepare .ensures) (c .before .if2 .taken)
+    (c .refused2 .ensures)
+
+refused-requires-3 : tie.Need-refused-requires-3
+refused-requires-3 c κs = search needs
+
+same-length-2 : tie.Need-same-length-2
+same-length-2 c = search needs
+
+returns-3 : tie.Need-returns-3
+returns-3 c =
     let e = c .before .before .before in
     let p = e .before .before .before in
-    recursion-19 (call p) (given p) (p .prepare .ensures) (e .if1 .left) (c .before .if2 .taken) (c .refused2 .ensures)
+    recursion-19 (call (first p)) (given (first p)) (judged p) (p .prepare .ensures) (e .if2 .left)
+    (c .before .if3 .taken) (c .refused3 .ensures)
 
 by-recursion-requires : tie.Need-by-recursion-requires
 by-recursion-requires c κs =
@@ -53,10 +77,10 @@ by-recursion-requires c κs =
     let e = l .before .before in
     let p = e .before .before .before in
     let r = p .prepare .ensures in (
-      prepared-ready {c = call p .catchment} refl r (e .if1 .left),
+      prepared-fresh {c = call (first p) .catchment} refl r (e .if2 .left),
       (
-        prepared-chosen {c = call p .catchment} refl r (e .if1 .left),
-        omega (arith, l .if2 .left, p .prepare .ensures .counted (e .if1 .left)),
+        prepared-chosen {c = call (first p) .catchment} refl r (e .if2 .left),
+        omega (arith, l .if3 .left, r .counted (e .if2 .left)),
       ),
     )
 
@@ -66,26 +90,31 @@ same-length-3 c = search needs
 same-length-4 : tie.Need-same-length-4
 same-length-4 c = search needs
 
-returns-3 : tie.Need-returns-3
-returns-3 c =
-    let b = c .before .before in
+returns-4 : tie.Need-returns-4
+returns-4 c =
+    let b = c .before .before .before .before in
     let l = b .before .before .before in
     let e = l .before .before in
     let p = e .before .before .before in
-    recursion-whole (call p) (given p) (p .prepare .ensures) (e .if1 .left) (l .if2 .left) (b .by-recursion .ensures)
+    rw (b .by-recursion .ensures .1)
+    (recursion-whole (call (first p)) (given (first p)) (judged p) (p .prepare .ensures) (e .if2 .left) (l .if3 .left)
+    (b .by-recursion .ensures .0))
 
 pub trace-by-recursion-spec : {M : Type 1} → statement M
 trace-by-recursion-spec =
     tie.close
     (tie.spec
-    prepare-requires
+    is-edition-requires
     refused-requires
-    same-length
     returns
+    prepare-requires
     refused-requires-2
-    same-length-2
+    same-length
     returns-2
+    refused-requires-3
+    same-length-2
+    returns-3
     by-recursion-requires
     same-length-3
     same-length-4
-    returns-3)
+    returns-4)

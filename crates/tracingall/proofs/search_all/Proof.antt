@@ -4,7 +4,7 @@ use native.Mathlib.Omega.{arith}
 use borrow.Author.Needs.{needs}
 use Rattle.lists.proofs.Kept.{kept-then}
 use Rattle.ground.specs.Grid.{gridOf}
-use Rattle.passes.proofs.Counting.{kept-searchable}
+use Rattle.passes.proofs.Counting.{kept-traceable}
 use Rattle.tracingall.proofs.Deciding.{clears-all, total, searched-21, searched-0}
 use Rattle.tracingall.proofs.search_all.Statement.{statement}
 use Rattle.tracingall.proofs.search_all.Tie as tie
@@ -23,7 +23,7 @@ clear-requires : tie.Need-clear-requires
 clear-requires c κs =
     let t = c .before .before .before .before .before in
     let s = start t in
-    omega (arith, s .pre .1 .0, s .pre .0 .room, t .count-all .ensures .kept .same-length)
+    omega (arith, s .pre .1 .0, s .pre .0 .list .room, t .count-all .ensures .kept .same-length)
 
 same-length : tie.Need-same-length
 same-length c = search needs
@@ -37,8 +37,8 @@ returns c =
     let s = start t in
     let a = s .args in
     let g = gridOf (a .rows) (a .cols) (a .codes .now) in
-    searched-21 g (a .outlets .now) (t .count-all .ensures .counts) (i .index-of .ensures .0)
-    (clears-all g (a .outlets .now) (s .pre .1 .0) (s .pre .0 .room) (t .count-all .ensures .kept) (d .clear .ensures))
+    searched-21 g (a .outlets .now) (a .edition) (t .count-all .ensures .counts) (i .index-of .ensures .0)
+    (clears-all g (a .outlets .now) (s .pre .1 .0) (s .pre .0 .list .room) (t .count-all .ensures .kept) (d .clear .ensures))
     (e .if1 .taken)
 
 list-all-requires : tie.Need-list-all-requires
@@ -49,9 +49,13 @@ list-all-requires c κs =
     let s = start t in
     let a = s .args in
     let g = gridOf (a .rows) (a .cols) (a .codes .now) in (
-      kept-searchable (s .pre .0) (t .count-all .ensures .kept),
+      record {
+        ready = s .pre .0 .ready;
+        met = s .pre .0 .met;
+        list = kept-traceable (s .pre .0 .list) (t .count-all .ensures .kept);
+      },
       (
-        omega (arith, e .if1 .left, total g (a .outlets .now) (t .count-all .ensures .counts) (i .index-of .ensures .0)),
+        omega (arith, e .if1 .left, total g (a .outlets .now) (a .edition) (t .count-all .ensures .counts) (i .index-of .ensures .0)),
         t .count-all .ensures .few-paths,
         s .pre .1 .1,
       ),
@@ -65,7 +69,7 @@ clear-requires-2 c κs =
     omega (
       arith,
       s .pre .1 .0,
-      s .pre .0 .room,
+      s .pre .0 .list .room,
       t .count-all .ensures .kept .same-length,
       m .list-all .ensures .kept .same-length,
     )
@@ -90,8 +94,8 @@ returns-2 c =
     let a = s .args in
     let g = gridOf (a .rows) (a .cols) (a .codes .now) in
     let k = kept-then (t .count-all .ensures .kept) (m .list-all .ensures .kept) in
-    searched-0 g (a .outlets .now) (t .count-all .ensures .counts) (i .index-of .ensures .0)
-    (clears-all g (a .outlets .now) (s .pre .1 .0) (s .pre .0 .room) k (d .clear2 .ensures)) (e .if1 .left)
+    searched-0 g (a .outlets .now) (a .edition) (t .count-all .ensures .counts) (i .index-of .ensures .0)
+    (clears-all g (a .outlets .now) (s .pre .1 .0) (s .pre .0 .list .room) k (d .clear2 .ensures)) (e .if1 .left)
     (m .list-all .ensures)
 
 pub search-all-spec : {M : Type 1} → statement M

@@ -26,7 +26,13 @@ pub struct AllTraced {
 }
 
 impl Comparison {
-    pub fn trace_all(&mut self, terrain: Terrain, outlets: &[u32], rooms: AllRooms) -> AllTraced {
+    pub fn trace_all(
+        &mut self,
+        edition: u32,
+        terrain: Terrain,
+        outlets: &[u32],
+        rooms: AllRooms,
+    ) -> AllTraced {
         let Terrain { rows, cols, codes, accumulation } = terrain;
         let codes = self.input("codes", codes);
         let accumulation = self.input("accumulation", accumulation);
@@ -37,6 +43,7 @@ impl Comparison {
         let mut work = self.output("work", rooms.work);
         let mut sums = self.output("sums", 2);
         let tracing = entries::trace_all(
+            edition,
             terrain,
             outlets.contents,
             &mut grid.due,
@@ -47,6 +54,7 @@ impl Comparison {
         sums.due = tracing.sums().to_vec();
         let found = self.on_small_stack(codes.contents.len(), || {
             jinxbanyan::trace_all(
+                edition,
                 rows,
                 cols,
                 codes.lent.slice(),
@@ -61,7 +69,7 @@ impl Comparison {
         });
         self.settle(
             Entry::TraceAll,
-            format_args!("rows {rows} cols {cols}"),
+            format_args!("edition {edition} rows {rows} cols {cols}"),
             &[&codes, &accumulation, &outlets, &grid, &starts, &counts, &work, &sums],
             tracing.number(),
             found,
@@ -80,9 +88,9 @@ impl Comparison {
         }
     }
 
-    /// The library alone: a call with dropping for each outlet gives, put together, what one call
-    /// for all gave, which was accepted.
-    pub fn one_by_one(&self, terrain: Terrain, outlets: &[u32], all: &AllTraced) {
+    /// The library alone: a call by the same edition with dropping for each outlet gives, put
+    /// together, what one call for all gave, which was accepted.
+    pub fn one_by_one(&self, edition: u32, terrain: Terrain, outlets: &[u32], all: &AllTraced) {
         let Terrain { rows, cols, codes, accumulation } = terrain;
         let (mut starts, mut counts, mut sums) = (Vec::new(), Vec::new(), [0; 2]);
         let (mut grid, mut list) = (vec![0; rows * cols], vec![0; all.list.len()]);
@@ -91,6 +99,7 @@ impl Comparison {
             for place in 0..outlets.len() {
                 let mut results = [0; 5];
                 let number = jinxbanyan::trace_by_stack(
+                    edition,
                     rows,
                     cols,
                     codes,

@@ -1,5 +1,6 @@
 //! Tracing by either engine.
 
+use second_reading::editions::Edition;
 use second_reading::entries::{self, Terrain};
 use second_reading::ground::Ground;
 
@@ -12,9 +13,14 @@ pub enum Engine {
     Recursion,
 }
 
+/// Numbers of no edition, some of them right in their low bits.
+pub const NO_EDITIONS: [u32; 11] =
+    [0, 3, 4, 255, 256, 257, 258, 1 << 16 | 1, 1 << 31 | 2, u32::MAX - 1, u32::MAX];
+
 /// What a tracing call asks.
 #[derive(Clone, Copy)]
 pub struct Ask<'a> {
+    pub edition: u32,
     pub terrain: Terrain<'a>,
     pub outlets: &'a [u32],
     pub place: usize,
@@ -40,7 +46,7 @@ pub struct Traced {
 
 impl Comparison {
     pub fn trace(&mut self, engine: Engine, ask: Ask, rooms: Rooms) -> Traced {
-        let Ask { terrain, outlets, place, dropping } = ask;
+        let Ask { edition, terrain, outlets, place, dropping } = ask;
         let Terrain { rows, cols, codes, accumulation } = terrain;
         let codes = self.input("codes", codes);
         let accumulation = self.input("accumulation", accumulation);
@@ -52,6 +58,7 @@ impl Comparison {
         let (tracing, found) = match engine {
             Engine::Stack => {
                 let tracing = entries::trace_by_stack(
+                    edition,
                     terrain,
                     outlets.contents,
                     place,
@@ -62,6 +69,7 @@ impl Comparison {
                 );
                 let found = self.on_small_stack(codes.contents.len(), || {
                     jinxbanyan::trace_by_stack(
+                        edition,
                         rows,
                         cols,
                         codes.lent.slice(),
@@ -79,6 +87,7 @@ impl Comparison {
             }
             Engine::Recursion => {
                 let tracing = entries::trace_by_recursion(
+                    edition,
                     terrain,
                     outlets.contents,
                     place,
@@ -88,6 +97,7 @@ impl Comparison {
                 );
                 let found = self.on_small_stack(codes.contents.len(), || {
                     jinxbanyan::trace_by_recursion(
+                        edition,
                         rows,
                         cols,
                         codes.lent.slice(),
@@ -111,17 +121,23 @@ impl Comparison {
                 (Engine::Recursion, 0) => Entry::TraceByRecursion,
                 (Engine::Recursion, _) => Entry::TraceByRecursionDropping,
             },
-            format_args!("rows {rows} cols {cols} place {place} dropping {dropping}"),
+            format_args!(
+                "edition {edition} rows {rows} cols {cols} place {place} dropping {dropping}"
+            ),
             &[&codes, &accumulation, &outlets, &grid, &starts, &work, &results],
             tracing.number(),
             found,
         );
         if tracing.number() == 0 {
+            let edition = Edition::numbered(edition).expect("accepted by an edition");
             let ground = Ground::new(rows, cols, codes.contents);
             let (outlet, outlets) = (outlets.contents[place] as usize, outlets.contents);
             let starts = &starts.due[..tracing.results()[2] as usize];
-            let searches = (dropping != 0).then(|| Searches::of(ground, outlet, outlets, starts));
-            self.tally.see_tracing(&Accepted { ground, outlet, outlets, searches });
+            let searches =
+                (dropping != 0).then(|| Searches::of(edition, ground, outlet, outlets, starts));
+            let subaccumulation = &grid.due;
+            let accepted = Accepted { ground, outlet, outlets, starts, subaccumulation, searches };
+            self.tally.see_tracing(&accepted);
         }
         Traced {
             number: tracing.number(),

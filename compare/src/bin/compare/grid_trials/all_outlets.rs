@@ -14,22 +14,23 @@ pub fn around_all_needs(
     most: usize,
     random: &mut Random,
 ) {
-    let (terrain, outlets, needs) = (case.terrain(), &case.outlets[..], case.all_rooms());
-    let all = comparison.trace_all(terrain, outlets, needs);
-    comparison.one_by_one(terrain, outlets, &all);
+    let (edition, terrain) = (case.edition, case.terrain());
+    let (outlets, needs) = (&case.outlets[..], case.all_rooms());
+    let all = comparison.trace_all(edition, terrain, outlets, needs);
+    comparison.one_by_one(edition, terrain, outlets, &all);
     comparison.every_part(outlets.len(), &all);
     let most_work = 3 * all.grid.iter().copied().max().unwrap_or(0) as usize;
     let paths: Vec<usize> = all.counts.iter().map(|&count| count as usize).collect();
     let see = |comparison: &mut Comparison, lent: AllRooms, number: u32| {
         assert_eq!(number, number_due(needs, lent), "{}", comparison.subject());
-        let call = AllCall { paths: &paths, needs, most_work, lent, number };
+        let call = AllCall { edition, paths: &paths, needs, most_work, lent, number };
         comparison.tally.see_all_call(&call);
     };
     see(comparison, needs, all.number);
     let mut mixtures = mixtures(needs, paths[0], random);
     random.shuffle(&mut mixtures);
     for lent in mixtures.into_iter().take(most) {
-        let number = comparison.trace_all(terrain, outlets, lent).number;
+        let number = comparison.trace_all(edition, terrain, outlets, lent).number;
         see(comparison, lent, number);
     }
 }

@@ -1,5 +1,6 @@
 //! One case, and the calls made of it.
 
+use second_reading::editions::Edition;
 use second_reading::entries::Terrain;
 use second_reading::ground::Ground;
 use second_reading::random::Random;
@@ -11,6 +12,8 @@ use crate::grounds::Grid;
 /// Everything that the grid entries take, for one outlet and one start.
 #[derive(Clone)]
 pub struct Case {
+    /// Of tracings.
+    pub edition: u32,
     pub rows: usize,
     pub cols: usize,
     pub codes: Vec<u8>,
@@ -32,16 +35,19 @@ pub struct Case {
 }
 
 impl Case {
-    /// A case with all rooms just as large as they must be, if the grid is
-    /// free of rings and the list of outlets is sound.
+    /// A case by either edition, with all rooms just as large as they must be,
+    /// if the grid is free of rings and the list of outlets is sound.
     pub fn new(
         grid: &Grid,
         accumulation: &[u32],
         outlets: &[u32],
         place: usize,
         start: u32,
+        random: &mut Random,
     ) -> Case {
+        let edition = random.pick(&[1, 2]);
         let mut case = Case {
+            edition,
             rows: grid.rows,
             cols: grid.cols,
             codes: grid.codes.clone(),
@@ -62,7 +68,8 @@ impl Case {
             return case;
         }
         let division = Division::new(grid.ground(), outlets);
-        let longest = division.longest_of_each(outlets);
+        let starts = division.starts(Edition::numbered(edition).expect("one of the two"));
+        let longest = division.longest_of_each(&starts, outlets);
         let subaccumulation = division.subaccumulation();
         let work = |outlet: u32| 3 * subaccumulation[outlet as usize] as usize;
         case.all_list_room = longest.iter().map(|longest| longest.starts.len()).sum();
@@ -88,7 +95,8 @@ impl Case {
     }
 
     fn ask(&self, dropping: u32) -> Ask<'_> {
-        Ask { terrain: self.terrain(), outlets: &self.outlets, place: self.place, dropping }
+        let Case { edition, place, .. } = *self;
+        Ask { edition, terrain: self.terrain(), outlets: &self.outlets, place, dropping }
     }
 
     fn rooms(&self) -> Rooms {
@@ -124,7 +132,7 @@ impl Case {
         comparison.subaccumulate(self.terrain(), &self.outlets, self.grid_room);
         comparison.flow_lengths(self.terrain(), &self.outlets, self.length_rooms);
         self.trace(comparison, self.rooms(), random);
-        comparison.trace_all(self.terrain(), &self.outlets, self.all_rooms());
+        comparison.trace_all(self.edition, self.terrain(), &self.outlets, self.all_rooms());
         self.draw(comparison, self.start, self.path_room);
     }
 

@@ -4,7 +4,7 @@ use second_reading::ground::{is_code, Ground, NULL, POND};
 use second_reading::random::Random;
 
 use super::case::Case;
-use crate::calls::Comparison;
+use crate::calls::{Comparison, NO_EDITIONS};
 
 /// The case with one damage of every kind, then with several at once.
 pub fn damaged(comparison: &mut Comparison, case: &Case, several: usize, random: &mut Random) {
@@ -36,7 +36,9 @@ pub fn damaged(comparison: &mut Comparison, case: &Case, several: usize, random:
 type Damage = (&'static str, fn(&mut Case, &mut Random));
 
 /// What can be done to a sound case. Some of it leaves the case sound.
-const DAMAGES: [Damage; 25] = [
+const DAMAGES: [Damage; 27] = [
+    ("odd edition", |case, random| case.edition = random.pick(&NO_EDITIONS)),
+    ("other edition", |case, _| case.edition ^= 3),
     ("odd rows", |case, random| case.rows = odd_side(case.rows, random)),
     ("odd columns", |case, random| case.cols = odd_side(case.cols, random)),
     ("odd sides", |case, random| {

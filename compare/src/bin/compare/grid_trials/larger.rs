@@ -49,7 +49,7 @@ pub fn larger_grids(comparison: &mut Comparison, random: &mut Random) {
         for outlets in [vec![mouth], many] {
             let place = outlets.len() - 1;
             let start = random.pick(&solid);
-            let case = Case::new(&grid, &accumulation, &outlets, place, start);
+            let case = Case::new(&grid, &accumulation, &outlets, place, start, random);
             case.every_entry(comparison, random);
             if grid.cells() < 7000 {
                 if !ground.has_ring() {
@@ -71,7 +71,8 @@ fn whole_valleys(rows: usize, cols: usize, random: &mut Random) -> Grid {
     }
 }
 
-/// Each entry once for the last outlet, tracing with dropping, and once for all outlets.
+/// Each entry once for the last outlet, tracing with dropping, and once for all outlets by
+/// edition 2.
 fn once(
     comparison: &mut Comparison,
     grid: &Grid,
@@ -86,13 +87,13 @@ fn once(
     comparison.subaccumulate(terrain, outlets, cells);
     comparison.flow_lengths(terrain, outlets, [cells; 4]);
     let place = outlets.len() - 1;
-    let ask = Ask { terrain, outlets, place, dropping: 1 };
+    let ask = Ask { edition: 1, terrain, outlets, place, dropping: 1 };
     let rooms = Rooms { grid: cells, list: 100, work: 3 * cells };
     let traced = comparison.trace(Engine::Stack, ask, rooms);
     comparison.draw(terrain, outlets, place, traced.list[0], cells);
     comparison.trace(Engine::Recursion, Ask { place: random.below(outlets.len()), ..ask }, rooms);
     let rooms = AllRooms { grid: cells, list: 9999, counts: 256, work: 3 * cells };
-    let all = comparison.trace_all(terrain, outlets, rooms);
+    let all = comparison.trace_all(2, terrain, outlets, rooms);
     assert_eq!(all.number, 0, "{}", comparison.subject());
     comparison.every_part(outlets.len(), &all);
 }

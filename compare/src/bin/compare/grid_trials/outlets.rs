@@ -68,15 +68,15 @@ pub fn outlet_edges(comparison: &mut Comparison, random: &mut Random) {
             comparison.about(format!("{} outlets on {}", count, grid.kind));
             let outlets = &solid[..count];
             for place in [0, 254, 255, 256, 257] {
-                let case = Case::new(&grid, &accumulation, outlets, place, outlets[0]);
+                let case = Case::new(&grid, &accumulation, outlets, place, outlets[0], random);
                 case.every_entry(comparison, random);
                 let start = outlets[place.min(count - 1)];
-                let case = Case::new(&grid, &accumulation, outlets, place, start);
+                let case = Case::new(&grid, &accumulation, outlets, place, start, random);
                 case.every_entry(comparison, random);
             }
             for place in [0, count - 1] {
                 for odd in [399, 400, u32::MAX, outlets[count / 2], outlets[count - 1 - place]] {
-                    let case = Case::new(&grid, &accumulation, outlets, 1, outlets[1]);
+                    let case = Case::new(&grid, &accumulation, outlets, 1, outlets[1], random);
                     let mut outlets = outlets.to_vec();
                     outlets[place] = odd;
                     Case { outlets, ..case }.every_entry(comparison, random);
@@ -84,7 +84,7 @@ pub fn outlet_edges(comparison: &mut Comparison, random: &mut Random) {
             }
             // A repeated outlet before a null one: 16 is judged of the whole
             // list before 17 of any.
-            let case = Case::new(&grid, &accumulation, outlets, 1, outlets[1]);
+            let case = Case::new(&grid, &accumulation, outlets, 1, outlets[1], random);
             let mut outlets = outlets.to_vec();
             outlets[1] = outlets[0];
             outlets[count - 1] = 399;

@@ -1,6 +1,6 @@
 //! Trees grown from their mouths, and a tree bent to a ring.
 
-use second_reading::ground::POND;
+use second_reading::ground::{NULL, POND};
 use second_reading::random::Random;
 
 use super::grid::{back, Grid};
@@ -26,9 +26,32 @@ pub fn forest(rows: usize, cols: usize, random: &mut Random) -> Grid {
             grown.push(cell);
         }
     }
-    // The later of the grown cells are taken more often where trees are to
-    // become long.
     let long = random.one_in(2);
+    grow(&mut grid, grown, &null, long, random);
+    grid
+}
+
+/// One tree over the whole grid, mostly a long one, from a mouth at the edge or
+/// a pond anywhere. At times one cell is null, or a pond.
+pub fn tree(rows: usize, cols: usize, random: &mut Random) -> Grid {
+    let mut grid = Grid::null("tree", rows, cols);
+    let cells = grid.cells();
+    let null = vec![false; cells];
+    let mouth = random.below(cells);
+    let mut ends = grid.ends(mouth, &null);
+    ends.push(POND);
+    grid.codes[mouth] = random.pick(&ends);
+    let long = !random.one_in(4);
+    grow(&mut grid, vec![mouth], &null, long, random);
+    if random.one_in(3) {
+        grid.codes[random.below(cells)] = random.pick(&[NULL, POND]);
+    }
+    grid
+}
+
+/// Grows trees at random from the cells that are grown, over all that are not
+/// null. The later ones are taken more often where trees are to become long.
+fn grow(grid: &mut Grid, mut grown: Vec<usize>, null: &[bool], long: bool, random: &mut Random) {
     while !grown.is_empty() {
         let at =
             if long && !random.one_in(8) { grown.len() - 1 } else { random.below(grown.len()) };
@@ -45,7 +68,6 @@ pub fn forest(rows: usize, cols: usize, random: &mut Random) -> Grid {
         grid.codes[next] = back(way);
         grown.push(next);
     }
-    grid
 }
 
 /// A forest with one cell turned back to a neighbour above it: one ring, short

@@ -5,6 +5,7 @@ use crate::calls::AllRooms;
 /// A call for all outlets that passes every check before 20: what it would need, what it lent, and
 /// the number that came.
 pub struct AllCall<'a> {
+    pub edition: u32,
     /// The longest paths of each outlet, in list order.
     pub paths: &'a [usize],
     pub needs: AllRooms,
@@ -17,11 +18,14 @@ pub struct AllCall<'a> {
 /// Something to be seen of it.
 type Sight = (&'static str, fn(&AllCall) -> bool);
 
-pub const ALL_CALLS: [Sight; 7] = [
+pub const ALL_CALLS: [Sight; 8] = [
     ("several outlets and ties, accepted", |call| {
         call.number == 0 && call.paths.len() > 1 && call.paths.iter().any(|&paths| paths > 1)
     }),
     ("256 outlets, accepted", |call| call.number == 0 && call.paths.len() == 256),
+    ("several outlets by edition 2, accepted", |call| {
+        call.number == 0 && call.edition == 2 && call.paths.len() > 1
+    }),
     ("21 where the first outlet's paths would fit", |call| {
         call.number == 21 && call.lent.list >= call.paths[0]
     }),

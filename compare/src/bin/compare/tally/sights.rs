@@ -1,6 +1,8 @@
-//! What tracings that were accepted had to do with ponds, and what those with dropping dropped.
+//! What tracings that were accepted had to do with ponds and with the divide, and what those with
+//! dropping dropped.
 
 use second_reading::ground::Ground;
+use second_reading::search::Search;
 
 use super::searches::Searches;
 
@@ -9,6 +11,9 @@ pub struct Accepted<'a> {
     pub ground: Ground<'a>,
     pub outlet: usize,
     pub outlets: &'a [u32],
+    /// Those listed.
+    pub starts: &'a [u32],
+    pub subaccumulation: &'a [u32],
     /// With dropping.
     pub searches: Option<Searches>,
 }
@@ -16,7 +21,7 @@ pub struct Accepted<'a> {
 /// Something to be seen of it.
 type Sight = (&'static str, fn(&Accepted) -> bool);
 
-pub const TRACINGS: [Sight; 12] = [
+pub const TRACINGS: [Sight; 17] = [
     ("ground without ponds", |tracing| ponds(tracing.ground).next().is_none()),
     ("a pond that is no outlet", |tracing| {
         ponds(tracing.ground).any(|pond| !tracing.outlets.contains(&(pond as u32)))
@@ -50,6 +55,21 @@ pub const TRACINGS: [Sight; 12] = [
     ("a neighbour dropped above a diagonal step", |tracing| {
         dropped(tracing, |searches| searches.step.diagonal_drops > 0)
     }),
+    ("a start that is no headwater", |tracing| {
+        tracing.starts.iter().any(|&start| tracing.subaccumulation[start as usize] > 1)
+    }),
+    ("a headwater visited where no length is met", |tracing| {
+        dropped(tracing, |searches| searches.step.met_in_vain > 0)
+    }),
+    ("an outlet that is not on the divide", |tracing| {
+        dropped(tracing, |searches| !searches.from_outlet)
+    }),
+    ("by edition 2 other starts than by edition 1", |tracing| {
+        by_both(tracing, |first, second| first.starts != second.starts)
+    }),
+    ("by edition 2 more cells visited than by edition 1", |tracing| {
+        by_both(tracing, |first, second| first.visited < second.visited)
+    }),
 ];
 
 fn ponds(ground: Ground<'_>) -> impl Iterator<Item = usize> + '_ {
@@ -58,6 +78,14 @@ fn ponds(ground: Ground<'_>) -> impl Iterator<Item = usize> + '_ {
 
 fn around(ground: Ground<'_>, cell: usize) -> impl Iterator<Item = usize> + '_ {
     (0..8).filter_map(move |way| ground.neighbour(cell, way))
+}
+
+/// Of a tracing by edition 2 with dropping, its search by either edition.
+fn by_both(tracing: &Accepted, is_seen: fn(&Search, &Search) -> bool) -> bool {
+    let Some(Searches { step, first_edition: Some(first), .. }) = &tracing.searches else {
+        return false;
+    };
+    is_seen(first, step)
 }
 
 fn dropped(tracing: &Accepted, is_seen: fn(&Searches) -> bool) -> bool {

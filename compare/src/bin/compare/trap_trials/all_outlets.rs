@@ -5,9 +5,9 @@ use second_reading::entries::Terrain;
 use super::trap::Trap;
 use crate::calls::{AllRooms, Comparison};
 
-/// All outlets of a trap at once: its answers run together. Then with places too many, too few, and
-/// enough for the first outlet alone.
-pub fn of_trap(comparison: &mut Comparison, trap: &Trap) {
+/// All outlets of a trap at once, by an edition: its answers run together. Then with places too many,
+/// too few, and enough for the first outlet alone.
+pub fn of_trap(comparison: &mut Comparison, trap: &Trap, edition: u32) {
     let outlets = trap.outlets.len();
     let starts: Vec<u32> = trap.answers.iter().flat_map(|answer| answer.starts).copied().collect();
     let counts: Vec<u32> = trap.answers.iter().map(|answer| answer.starts.len() as u32).collect();
@@ -26,14 +26,14 @@ pub fn of_trap(comparison: &mut Comparison, trap: &Trap) {
             counts: places + more,
             work: work + more,
         };
-        let all = comparison.trace_all(trap.terrain(), trap.outlets, rooms);
+        let all = comparison.trace_all(edition, trap.terrain(), trap.outlets, rooms);
         assert_eq!((all.number, all.sums), (0, sums), "{}", trap.name);
         assert_eq!(all.list[..list], starts, "{}", trap.name);
         assert_eq!(all.counts[..outlets], counts, "{}", trap.name);
         for (&outlet, answer) in trap.outlets.iter().zip(trap.answers) {
             assert_eq!(all.grid[outlet as usize], answer.cells, "{}", trap.name);
         }
-        comparison.one_by_one(trap.terrain(), trap.outlets, &all);
+        comparison.one_by_one(edition, trap.terrain(), trap.outlets, &all);
         comparison.every_part(outlets, &all);
     }
     let first = counts[0] as usize;
@@ -53,7 +53,7 @@ pub fn of_trap(comparison: &mut Comparison, trap: &Trap) {
                 (0, _) => (23, [0, 0]),
                 _ => (20, [0, 0]),
             };
-            let all = comparison.trace_all(trap.terrain(), trap.outlets, rooms);
+            let all = comparison.trace_all(edition, trap.terrain(), trap.outlets, rooms);
             assert_eq!((all.number, all.sums), due, "{}", trap.name);
         }
     }
@@ -72,12 +72,12 @@ pub fn all_outlets(comparison: &mut Comparison) {
     comparison.about("trap: all outlets in either order".to_string());
     let rooms = AllRooms { grid: 9, list: 3, counts: 2, work: 18 };
     for (outlets, starts, counts) in [([7, 4], [8, 0, 2], [1, 2]), ([4, 7], [0, 2, 8], [2, 1])] {
-        let all = comparison.trace_all(WITH_NULL, &outlets, rooms);
+        let all = comparison.trace_all(1, WITH_NULL, &outlets, rooms);
         // Together the eight cells that are not null.
         assert_eq!((all.number, all.sums), (0, [7, 1]));
         assert_eq!(all.grid, [1, 1, 1, 1, 6, 1, 0, 2, 1]);
         assert_eq!((&all.list[..], &all.counts[..]), (&starts[..], &counts[..]));
-        comparison.one_by_one(WITH_NULL, &outlets, &all);
+        comparison.one_by_one(1, WITH_NULL, &outlets, &all);
         comparison.every_part(2, &all);
     }
     needs_of_some(comparison);
@@ -98,13 +98,13 @@ fn needs_of_some(comparison: &mut Comparison) {
         (&[5, 4, 3, 2, 1, 0], [1; 6], &[5, 4, 3, 2, 1, 0], 3),
     ] {
         let rooms = AllRooms { grid: 6, list: starts.len(), counts: outlets.len(), work };
-        let all = comparison.trace_all(lane, outlets, rooms);
+        let all = comparison.trace_all(1, lane, outlets, rooms);
         let visited = outlets.iter().map(|&outlet| grid[outlet as usize]).sum();
         assert_eq!((all.number, all.sums), (0, [visited, 0]));
         assert_eq!((&all.grid[..], &all.list[..]), (&grid[..], starts));
         assert_eq!(all.counts, vec![1; outlets.len()]);
         let rooms = AllRooms { work: work - 1, ..rooms };
-        let all = comparison.trace_all(lane, outlets, rooms);
+        let all = comparison.trace_all(1, lane, outlets, rooms);
         assert_eq!((all.number, all.sums), (20, [0, 0]));
         assert_eq!(all.grid, grid);
     }
@@ -114,8 +114,8 @@ fn needs_of_some(comparison: &mut Comparison) {
 fn refusals(comparison: &mut Comparison) {
     comparison.about("trap: refusals of all outlets".to_string());
     let mut refused = |number, terrain, outlets: &[u32], grid| {
-        let all =
-            comparison.trace_all(terrain, outlets, AllRooms { grid, list: 0, counts: 0, work: 0 });
+        let rooms = AllRooms { grid, list: 0, counts: 0, work: 0 };
+        let all = comparison.trace_all(1, terrain, outlets, rooms);
         assert_eq!((all.number, all.sums), (number, [0, 0]));
     };
     let codes = &[2, 4, 8, 1, 4, 16, 0, 4, 3];

@@ -1,6 +1,7 @@
 //! The traps for the limit of a neighbour with n cells: the length of the cell
 //! it is entered from, the true step, and (n − 1)√2. Each tells that limit from
 //! others near it by the cells visited and dropped, some by the list as well.
+//! Every headwater is on the divide, so that both editions give the same.
 
 use super::trap::{answer, Trap};
 

@@ -66,7 +66,7 @@ fn subaccumulation(comparison: &mut Comparison) {
     for (outlets, due) in cases {
         assert_eq!(comparison.subaccumulate(TWO_PONDS, outlets, 10), 0);
         for engine in [Engine::Stack, Engine::Recursion] {
-            let ask = Ask { terrain: TWO_PONDS, outlets, place: 0, dropping: 1 };
+            let ask = Ask { edition: 1, terrain: TWO_PONDS, outlets, place: 0, dropping: 1 };
             let traced = comparison.trace(engine, ask, Rooms { grid: 10, list: 3, work: 12 });
             assert_eq!((traced.number, &traced.grid[..]), (0, &due[..]));
         }
@@ -117,7 +117,7 @@ fn bytes_beside(comparison: &mut Comparison) {
         assert_eq!(comparison.subaccumulate(terrain, &[1], 10), 12);
         assert_eq!(comparison.flow_lengths(terrain, &[1], [10; 4]).0, 12);
         for engine in [Engine::Stack, Engine::Recursion] {
-            let ask = Ask { terrain, outlets: &[1], place: 0, dropping: 1 };
+            let ask = Ask { edition: 1, terrain, outlets: &[1], place: 0, dropping: 1 };
             let traced = comparison.trace(engine, ask, Rooms { grid: 10, list: 3, work: 12 });
             assert_eq!((traced.number, traced.results), (12, [0; 5]));
         }

@@ -1,5 +1,6 @@
 //! The traps with ponds. A pond's byte has all bits set, so that a mistake can
-//! take it for any direction, or for all at once.
+//! take it for any direction, or for all at once. Every headwater is on the
+//! divide, so that both editions give the same.
 
 use super::trap::{answer, Trap};
 

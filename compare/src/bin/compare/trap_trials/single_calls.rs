@@ -23,7 +23,7 @@ pub fn whole_subaccumulation(comparison: &mut Comparison) {
     assert_eq!(comparison.subaccumulate(terrain, outlets, 6), 0);
     for (place, start, steps) in [(0, 1, 1), (1, 0, 0), (2, 3, 2)] {
         for engine in [Engine::Stack, Engine::Recursion] {
-            let ask = Ask { terrain, outlets, place, dropping: 1 };
+            let ask = Ask { edition: 1, terrain, outlets, place, dropping: 1 };
             let work = 3 * (steps as usize + 1);
             let traced = comparison.trace(engine, ask, Rooms { grid: 6, list: 1, work });
             assert_eq!((traced.number, traced.results), (0, [steps, 0, 1, steps + 1, 0]));
@@ -99,7 +99,7 @@ pub fn refusals(comparison: &mut Comparison) {
         assert_eq!(comparison.subaccumulate(terrain, outlets, 5), number);
         assert_eq!(comparison.flow_lengths(terrain, outlets, [5; 4]).0, number);
         for engine in [Engine::Stack, Engine::Recursion] {
-            let ask = Ask { terrain, outlets, place: 0, dropping: 1 };
+            let ask = Ask { edition: 1, terrain, outlets, place: 0, dropping: 1 };
             let traced = comparison.trace(engine, ask, Rooms { grid: 5, list: 5, work: 15 });
             assert_eq!((traced.number, traced.results), (number, [0; 5]));
         }

@@ -15,6 +15,7 @@ pub struct Answer {
     pub dropped: u32,
 }
 
+#[derive(Clone, Copy)]
 pub struct Trap {
     pub name: &'static str,
     pub rows: usize,

@@ -1,0 +1,5 @@
+pub mod Beside
+pub mod Outside
+pub mod Changing
+pub mod Noting
+pub mod Gathered

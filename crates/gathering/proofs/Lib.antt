@@ -1,0 +1,5 @@
+pub mod Tributaries
+pub mod Following
+pub mod Listing
+pub mod Reaching
+pub mod Gathering

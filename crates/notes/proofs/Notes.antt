@@ -1,0 +1,43 @@
+-- What is read off a word after a note is made or taken away.
+-- Assumes nothing.
+use mathlib.Core.Path.{_≡_, refl, sym, ap, _∙_}
+use mathlib.Core.Bool.{Bool, true, false, cond}
+use Prim.Native.Nat.{ℕ, _+_, _*_, _/_, _%_, _≤_, _<_, _^_}
+use native.Mathlib.Omega.{arith}
+use Rattle.notes.specs.Notes.{cellsHeld, withOutlet, withDivide, withInside, withoutInside}
+
+-- the subaccumulation stays
+pub cells-outlet : (w : ℕ) → cellsHeld (withOutlet w) ≡ cellsHeld w
+cells-outlet w = omega arith
+
+pub cells-divide : (w : ℕ) → cellsHeld (withDivide w) ≡ cellsHeld w
+cells-divide w = omega arith
+
+pub cells-inside : (w : ℕ) → cellsHeld (withInside w) ≡ cellsHeld w
+cells-inside w = omega arith
+
+pub cells-left : (w : ℕ) → cellsHeld (withoutInside w) ≡ cellsHeld w
+cells-left w = omega arith
+
+-- and so does the note of an outlet
+pub outlet-divide : (w : ℕ) → withDivide w / 2 ^ 29 % 2 ≡ w / 2 ^ 29 % 2
+outlet-divide w = omega arith
+
+pub outlet-inside : (w : ℕ) → withInside w / 2 ^ 29 % 2 ≡ w / 2 ^ 29 % 2
+outlet-inside w = omega arith
+
+pub outlet-left : (w : ℕ) → withoutInside w / 2 ^ 29 % 2 ≡ w / 2 ^ 29 % 2
+outlet-left w = omega arith
+
+-- a note made twice is made once
+pub outlet-again : (w : ℕ) → withOutlet (withOutlet w) ≡ withOutlet w
+outlet-again w = omega arith
+
+pub divide-again : (w : ℕ) → withDivide (withDivide w) ≡ withDivide w
+divide-again w = omega arith
+
+pub inside-again : (w : ℕ) → withInside (withInside w) ≡ withInside w
+inside-again w = omega arith
+
+pub left-again : (w : ℕ) → withoutInside (withoutInside w) ≡ withoutInside w
+left-again w = omega arith
