@@ -1,7 +1,7 @@
 -- Words changed one after the other: which of them have their change so far.
 -- Assumes nothing.
 use mathlib.Core.Path.{_≡_, refl, sym, ap, _∙_, subst}
-use mathlib.Core.Bool.{Bool, true, false, cond, _&&_, _||_, or-true, or-false, or-assoc}
+use mathlib.Core.Bool.{Bool, true, false, cond, not, _&&_, _||_, or-true, or-false, or-assoc}
 use mathlib.Core.List.{List, [], _∷_, map}
 use Prim.Native.Nat.{ℕ, zero, suc, _+_, _*_, _/_, _%_, _≤_, _<_, _^_}
 use native.Mathlib.Numerals.{add-one}
@@ -15,8 +15,8 @@ use Rattle.lists.specs.Lists.{member}
 use Rattle.lists.proofs.Kept.{kept-all, kept-then, kept-set}
 use Rattle.lists.proofs.Members.{member-next}
 use Rattle.ground.specs.Grid.{gridOf}
-use Rattle.notes.specs.Notes.{cellsHeld, withOutlet, withDivide, withoutInside}
-use Rattle.notes.proofs.Notes.{outlet-again, divide-again, left-again}
+use Rattle.notes.specs.Notes.{cellsHeld, withOutlet, withEnclosed, withoutInside}
+use Rattle.notes.proofs.Notes.{outlet-again, enclosed-again, left-again}
 use Rattle.gathering.specs.Gathering.{cellOf, listed, OnList}
 use Rattle.divide.specs.Divides.{Changes, ClearsNotes, NotesOutlets, LeavesCells, NotesCells, besideOutside}
 use Rattle.divide.proofs.Beside.{beside-same}
@@ -115,16 +115,16 @@ mapped-more f (y ∷ xs) (suc j) h x =
     ap (λ (b : Bool). eqb (f y) x || b) (mapped-more f xs j (omega arith) x)
     ∙ sym (or-assoc (eqb (f y) x) (member x (map f (take j xs))) (eqb (f (getD xs j 0)) x))
 
--- a divide noted leaves a word below 2³¹ or not, as it was
-divide-low : (w : ℕ) → ltb (withDivide w) (2 ^ 31) ≡ ltb w (2 ^ 31)
-divide-low w = go (ltb w (2 ^ 31)) refl
+-- an enclosed cell noted leaves a word below 2³¹ or not, as it was
+enclosed-low : (w : ℕ) → ltb (withEnclosed w) (2 ^ 31) ≡ ltb w (2 ^ 31)
+enclosed-low w = go (ltb w (2 ^ 31)) refl
   where
-    go : (b : Bool) → ltb w (2 ^ 31) ≡ b → ltb (withDivide w) (2 ^ 31) ≡ b
-    go true e = lt-ltb (withDivide w) (2 ^ 31) (omega (arith, ltb-true w (2 ^ 31) e))
-    go false e = le-ltb (withDivide w) (2 ^ 31) (omega (arith, ltb-false w (2 ^ 31) e))
+    go : (b : Bool) → ltb w (2 ^ 31) ≡ b → ltb (withEnclosed w) (2 ^ 31) ≡ b
+    go true e = lt-ltb (withEnclosed w) (2 ^ 31) (omega (arith, ltb-true w (2 ^ 31) e))
+    go false e = le-ltb (withEnclosed w) (2 ^ 31) (omega (arith, ltb-false w (2 ^ 31) e))
 
-low-cond : (b : Bool) (w : ℕ) → ltb (cond b (withDivide w) w) (2 ^ 31) ≡ ltb w (2 ^ 31)
-low-cond true w = divide-low w
+low-cond : (b : Bool) (w : ℕ) → ltb (cond b (withEnclosed w) w) (2 ^ 31) ≡ ltb w (2 ^ 31)
+low-cond true w = enclosed-low w
 low-cond false w = refl
 
 -- one cell more that passes a test, or that does not
@@ -163,36 +163,36 @@ module _ {rows cols n k cell : ℕ} {list : List ℕ} (on : OnList rows cols lis
         (withoutInside (getD m (cell / 4096 * cols + cell % 4096) 0)))
     leaves-more c = changes-more c left-again cell-inside r listed-more
 
-    -- those beside an outside cell; the test is made on the present words
+    -- those beside no outside cell; the test is made on the present words
     module _ (codes : List ℕ) (c : NotesCells rows cols codes k list l m) where
       was-beside : (x : ℕ) → besideOutside (gridOf rows cols codes) m x ≡ besideOutside (gridOf rows cols codes) l x
       was-beside x = beside-same (gridOf rows cols codes) m l x (λ y. ap (λ (w : ℕ). ltb w (2 ^ 31)) (c .words y)
-          ∙ low-cond (member y (listed cols list k) && besideOutside (gridOf rows cols codes) l y) (getD l y 0))
+          ∙ low-cond (member y (listed cols list k) && not (besideOutside (gridOf rows cols codes) l y)) (getD l y 0))
 
       -- what the test says of the cell at hand
-      at-here : {t b : Bool} → t ≡ besideOutside (gridOf rows cols codes) m here → t ≡ b → (x : ℕ)
-          → eqb here x ≡ true → besideOutside (gridOf rows cols codes) l x ≡ b
-      at-here e k x f = ap (besideOutside (gridOf rows cols codes) l) (sym (eqb-true here x f)) ∙ sym (was-beside here)
-          ∙ sym e ∙ k
+      at-here : {t b : Bool} → t ≡ besideOutside (gridOf rows cols codes) m here → not t ≡ b → (x : ℕ)
+          → eqb here x ≡ true → not (besideOutside (gridOf rows cols codes) l x) ≡ b
+      at-here e k x f = ap (λ (y : ℕ). not (besideOutside (gridOf rows cols codes) l y)) (sym (eqb-true here x f))
+          ∙ ap not (sym (was-beside here) ∙ sym e) ∙ k
 
       abbrev new : ℕ → Bool
-      new x = member x (listed cols list (k + 1)) && besideOutside (gridOf rows cols codes) l x
+      new x = member x (listed cols list (k + 1)) && not (besideOutside (gridOf rows cols codes) l x)
 
       new-is : (x : ℕ) → new x
-          ≡ ((member x (listed cols list k) || eqb here x) && besideOutside (gridOf rows cols codes) l x)
-      new-is x = ap (λ (t : Bool). t && besideOutside (gridOf rows cols codes) l x) (listed-more x)
+          ≡ ((member x (listed cols list k) || eqb here x) && not (besideOutside (gridOf rows cols codes) l x))
+      new-is x = ap (λ (t : Bool). t && not (besideOutside (gridOf rows cols codes) l x)) (listed-more x)
 
       pub notes-more : {t : Bool}
-          → t ≡ besideOutside (gridOf rows cols codes) m (cell / 4096 * cols + cell % 4096) → t ≡ true
+          → t ≡ besideOutside (gridOf rows cols codes) m (cell / 4096 * cols + cell % 4096) → not t ≡ true
           → NotesCells rows cols codes (k + 1) list l (set m (cell / 4096 * cols + cell % 4096)
-          (withDivide (getD m (cell / 4096 * cols + cell % 4096) 0)))
-      notes-more e f = changes-more c divide-again cell-inside r
+          (withEnclosed (getD m (cell / 4096 * cols + cell % 4096) 0)))
+      notes-more e f = changes-more c enclosed-again cell-inside r
           (λ x. new-is x ∙ and-or (member x (listed cols list k)) (eqb here x)
-          (besideOutside (gridOf rows cols codes) l x) (at-here e f x))
+          (not (besideOutside (gridOf rows cols codes) l x)) (at-here e f x))
 
       pub notes-past : {t : Bool}
-          → t ≡ besideOutside (gridOf rows cols codes) m (cell / 4096 * cols + cell % 4096) → t ≡ false
+          → t ≡ besideOutside (gridOf rows cols codes) m (cell / 4096 * cols + cell % 4096) → not t ≡ false
           → NotesCells rows cols codes (k + 1) list l m
       notes-past e f = changes-same c
           (λ x. new-is x ∙ and-past (member x (listed cols list k)) (eqb here x)
-          (besideOutside (gridOf rows cols codes) l x) (at-here e f x))
+          (not (besideOutside (gridOf rows cols codes) l x)) (at-here e f x))

@@ -13,8 +13,8 @@ use Rattle.ground.specs.Grid.{gridOf, ground}
 use Rattle.ground.specs.Accumulation.{subaccumulation}
 use Rattle.ground.proofs.Cells.{ground-within}
 use Rattle.gathering.specs.Gathering.{CanGather, Gathers}
-use Rattle.divide.specs.Divides.{NotesCells, LeavesCells, CanNote, NotesDivide}
-use Rattle.divide.proofs.Noting.{divide-noted}
+use Rattle.divide.specs.Divides.{NotesCells, LeavesCells, CanNote, NotesEnclosed}
+use Rattle.divide.proofs.Noting.{enclosed-noted}
 
 module _ {rows cols place : ℕ} {codes outlets grid list : List ℕ}
     (can : CanNote rows cols codes outlets place grid list) {row col : ℕ}
@@ -38,13 +38,13 @@ module _ {rows cols place : ℕ} {codes outlets grid list : List ℕ}
 
   module _ {r : ℕ} {grid′ list′ : List ℕ}
       (gathers : Gathers rows cols codes outlets (row * cols + col) grid list r grid′ list′) where
-    pub divide-made : {words last : List ℕ} → NotesCells rows cols codes r list′ grid′ words
+    pub enclosed-made : {words last : List ℕ} → NotesCells rows cols codes r list′ grid′ words
         → LeavesCells rows cols r list′ words last
-        → NotesDivide (gridOf rows cols codes) outlets (getD outlets place 0) (rows * cols) grid list last list′
-    divide-made {words} {last} notes leaves =
-        subst (λ (o : ℕ). NotesDivide (gridOf rows cols codes) outlets o (rows * cols) grid list last list′)
+        → NotesEnclosed (gridOf rows cols codes) outlets (getD outlets place 0) (rows * cols) grid list last list′
+    enclosed-made {words} {last} notes leaves =
+        subst (λ (o : ℕ). NotesEnclosed (gridOf rows cols codes) outlets o (rows * cols) grid list last list′)
         (cell .is-number) (record {
-          notes = divide-noted (gridOf rows cols codes) outlets (row * cols + col) outlet-solid (can .none-inside)
+          notes = enclosed-noted (gridOf rows cols codes) outlets (row * cols + col) outlet-solid (can .none-inside)
               (gathers .cells) (gathers .enters) notes leaves;
           kept = gathers .kept;
         })

@@ -1,5 +1,5 @@
--- THE DIVIDE IS NOTED when its cells are entered, noted and left; and what the words hold before and after.
--- Assumes nothing.
+-- THE ENCLOSED CELLS ARE NOTED when the subwatershed's cells are entered, noted and left; and what the words hold
+-- before and after. Assumes nothing.
 use mathlib.Core.Path.{_≡_, refl, ap, ap₂, _∙_}
 use mathlib.Core.Bool.{Bool, true, false, cond, not, _&&_}
 use mathlib.Core.List.{List}
@@ -14,21 +14,21 @@ use Rattle.ground.specs.Grid.{Grid, cellCount, ground}
 use Rattle.ground.specs.Accumulation.{subaccumulation}
 use Rattle.ground.specs.Subwatershed.{inSubwatershed}
 use Rattle.ground.specs.Divide.{onDivide}
-use Rattle.notes.specs.Notes.{cellsHeld, withOutlet, withDivide, withInside, withoutInside, Noted}
-use Rattle.notes.proofs.Notes.{cells-divide, outlet-divide}
+use Rattle.notes.specs.Notes.{cellsHeld, withOutlet, withEnclosed, withInside, withoutInside, Noted}
+use Rattle.notes.proofs.Notes.{cells-enclosed, outlet-enclosed}
 use Rattle.gathering.specs.Gathering.{Enters}
-use Rattle.divide.specs.Divides.{Changes, NotesOutlets, ClearsNotes, besideOutside, dividesOf}
+use Rattle.divide.specs.Divides.{Changes, NotesOutlets, ClearsNotes, besideOutside, enclosedBy}
 use Rattle.divide.proofs.Outside.{inside-within, outside-divide}
 
 -- ---- entered, noted, left
 
--- a word on its way: of a cell inside, which has the divide note or not, and of one outside
+-- a word on its way: of a cell inside, which is noted as enclosed or not, and of one outside
 abbrev passed : Bool → Bool → ℕ → ℕ
-passed b d w = cond b (withoutInside (cond d (withDivide (withInside w)) (withInside w))) w
+passed b d w = cond b (withoutInside (cond d (withEnclosed (withInside w)) (withInside w))) w
 
 in-turn : (b d : Bool) (w : ℕ)
-    → cond b (withoutInside (cond (b && d) (withDivide (cond b (withInside w) w)) (cond b (withInside w) w)))
-    (cond (b && d) (withDivide (cond b (withInside w) w)) (cond b (withInside w) w)) ≡ passed b d w
+    → cond b (withoutInside (cond (b && d) (withEnclosed (cond b (withInside w) w)) (cond b (withInside w) w)))
+    (cond (b && d) (withEnclosed (cond b (withInside w) w)) (cond b (withInside w) w)) ≡ passed b d w
 in-turn true d w = refl
 in-turn false d w = refl
 
@@ -36,19 +36,19 @@ module _ (w : ℕ) (h : w < 2 ^ 31) where
   inside-adds : withInside w ≡ w + 2 ^ 31
   inside-adds = omega arith
 
-  divide-low : withDivide w < 2 ^ 31
-  divide-low = omega arith
+  enclosed-low : withEnclosed w < 2 ^ 31
+  enclosed-low = omega arith
 
   left-takes : withoutInside (w + 2 ^ 31) ≡ w
   left-takes = omega arith
 
-divide-adds : (w : ℕ) → withDivide (w + 2 ^ 31) ≡ withDivide w + 2 ^ 31
-divide-adds w = omega arith
+enclosed-adds : (w : ℕ) → withEnclosed (w + 2 ^ 31) ≡ withEnclosed w + 2 ^ 31
+enclosed-adds w = omega arith
 
-passed-is : (b d : Bool) (w : ℕ) → (b ≡ true → w < 2 ^ 31) → passed b d w ≡ cond (b && d) (withDivide w) w
+passed-is : (b d : Bool) (w : ℕ) → (b ≡ true → w < 2 ^ 31) → passed b d w ≡ cond (b && d) (withEnclosed w) w
 passed-is true true w h =
-    ap (λ (v : ℕ). withoutInside (withDivide v)) (inside-adds w (h refl)) ∙ ap withoutInside (divide-adds w)
-    ∙ left-takes (withDivide w) (divide-low w (h refl))
+    ap (λ (v : ℕ). withoutInside (withEnclosed v)) (inside-adds w (h refl)) ∙ ap withoutInside (enclosed-adds w)
+    ∙ left-takes (withEnclosed w) (enclosed-low w (h refl))
 passed-is true false w h = ap withoutInside (inside-adds w (h refl)) ∙ left-takes w (h refl)
 passed-is false d w h = refl
 
@@ -71,34 +71,34 @@ module _ (g : Grid) (outlets : List ℕ) (o : ℕ) (solid : ground g o ≡ true)
       go true = le-ltb (withInside (getD old y 0)) (2 ^ 31) (omega arith)
       go false = lt-ltb (getD old y 0) (2 ^ 31) (none-inside y h)
 
-  -- so those of them that are beside an outside cell are on the divide
-  entered-divide : (x : ℕ) → (in-it x && besideOutside g m₁ x) ≡ dividesOf g outlets o x
-  entered-divide x = go (in-it x) refl
+  -- so those of them that are beside an outside cell are on the divide, and the others are enclosed
+  entered-enclosed : (x : ℕ) → (in-it x && not (besideOutside g m₁ x)) ≡ enclosedBy g outlets o x
+  entered-enclosed x = go (in-it x) refl
     where
-      go : (b : Bool) → in-it x ≡ b → (b && besideOutside g m₁ x) ≡ (b && onDivide g outlets o x)
-      go true e = outside-divide g outlets o solid m₁ entered-tells x (inside-within g outlets o solid x e)
+      go : (b : Bool) → in-it x ≡ b → (b && not (besideOutside g m₁ x)) ≡ (b && not (onDivide g outlets o x))
+      go true e = ap not (outside-divide g outlets o solid m₁ entered-tells x (inside-within g outlets o solid x e))
       go false e = refl
 
-  pub divide-noted : {m₂ m₃ : List ℕ}
-      → Changes withDivide (cellCount g) (λ x. member x cells && besideOutside g m₁ x) m₁ m₂
+  pub enclosed-noted : {m₂ m₃ : List ℕ}
+      → Changes withEnclosed (cellCount g) (λ x. member x cells && not (besideOutside g m₁ x)) m₁ m₂
       → Changes withoutInside (cellCount g) (λ x. member x cells) m₂ m₃
-      → Changes withDivide (cellCount g) (dividesOf g outlets o) old m₃
-  divide-noted notes leaves = record {
+      → Changes withEnclosed (cellCount g) (enclosedBy g outlets o) old m₃
+  enclosed-noted notes leaves = record {
     kept = kept-then (enters .kept) (kept-then (notes .kept) (leaves .kept));
     words = λ x. leaves .words x
         ∙ ap₂ (λ (b : Bool) (w : ℕ). cond b (withoutInside w) w) (are-cells x)
         (notes .words x
-        ∙ ap₂ (λ (b : Bool) (w : ℕ). cond (b && besideOutside g m₁ x) (withDivide w) w) (are-cells x) (entered-is x))
-        ∙ in-turn (in-it x) (besideOutside g m₁ x) (getD old x 0)
-        ∙ passed-is (in-it x) (besideOutside g m₁ x) (getD old x 0)
+        ∙ ap₂ (λ (b : Bool) (w : ℕ). cond (b && not (besideOutside g m₁ x)) (withEnclosed w) w) (are-cells x) (entered-is x))
+        ∙ in-turn (in-it x) (not (besideOutside g m₁ x)) (getD old x 0)
+        ∙ passed-is (in-it x) (not (besideOutside g m₁ x)) (getD old x 0)
         (λ e. none-inside x (inside-within g outlets o solid x e))
-        ∙ ap (λ (b : Bool). cond b (withDivide (getD old x 0)) (getD old x 0)) (entered-divide x);
+        ∙ ap (λ (b : Bool). cond b (withEnclosed (getD old x 0)) (getD old x 0)) (entered-enclosed x);
   }
 
 -- ---- from one outlet to the next
 
--- a divide noted keeps the subaccumulations and the outlets
-module _ {n : ℕ} {which : ℕ → Bool} {old new : List ℕ} (c : Changes withDivide n which old new) where
+-- an enclosed cell noted keeps the subaccumulations and the outlets
+module _ {n : ℕ} {which : ℕ → Bool} {old new : List ℕ} (c : Changes withEnclosed n which old new) where
   pub still-noted : {g : Grid} {outlets : List ℕ} → Noted g outlets old → Noted g outlets new
   still-noted p = record {
     has-room = omega (arith, p .has-room, c .kept .same-length);
@@ -107,19 +107,19 @@ module _ {n : ℕ} {which : ℕ → Bool} {old new : List ℕ} (c : Changes with
         ∙ p .outlet-notes x h;
   }
     where
-      same-cells : (b : Bool) (w : ℕ) → cellsHeld (cond b (withDivide w) w) ≡ cellsHeld w
-      same-cells true w = cells-divide w
+      same-cells : (b : Bool) (w : ℕ) → cellsHeld (cond b (withEnclosed w) w) ≡ cellsHeld w
+      same-cells true w = cells-enclosed w
       same-cells false w = refl
 
-      same-outlet : (b : Bool) (w : ℕ) → cond b (withDivide w) w / 2 ^ 29 % 2 ≡ w / 2 ^ 29 % 2
-      same-outlet true w = outlet-divide w
+      same-outlet : (b : Bool) (w : ℕ) → cond b (withEnclosed w) w / 2 ^ 29 % 2 ≡ w / 2 ^ 29 % 2
+      same-outlet true w = outlet-enclosed w
       same-outlet false w = refl
 
   -- and leaves no cell inside
   pub still-none-inside : (x : ℕ) → getD old x 0 < 2 ^ 31 → getD new x 0 < 2 ^ 31
   still-none-inside x h = omega (arith, c .words x, small (which x))
     where
-      small : (b : Bool) → cond b (withDivide (getD old x 0)) (getD old x 0) < 2 ^ 31
+      small : (b : Bool) → cond b (withEnclosed (getD old x 0)) (getD old x 0) < 2 ^ 31
       small true = omega arith
       small false = h
 

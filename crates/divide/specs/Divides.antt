@@ -1,7 +1,7 @@
--- Which cells of the lent grid are noted as divide cells, and how the notes come and go.
+-- Which cells of the lent grid are noted as enclosed, and how the notes come and go.
 -- Assumes nothing.
 use mathlib.Core.Path.{_≡_}
-use mathlib.Core.Bool.{Bool, true, false, cond, _&&_, _||_}
+use mathlib.Core.Bool.{Bool, true, false, cond, not, _&&_, _||_}
 use mathlib.Core.List.{List, [], _∷_}
 use mathlib.Core.Option.{Option, none, some}
 use Prim.Native.Nat.{ℕ, _*_, _≤_, _<_, _^_}
@@ -15,7 +15,7 @@ use Rattle.ground.specs.Accumulation.{agrees, subaccumulation}
 use Rattle.ground.specs.Subwatershed.{inSubwatershed}
 use Rattle.ground.specs.Divide.{onDivide}
 use Rattle.moves.specs.Lent.{LentGrid, OnCell}
-use Rattle.notes.specs.Notes.{cellsHeld, withOutlet, withDivide, withoutInside, Noted}
+use Rattle.notes.specs.Notes.{cellsHeld, withOutlet, withEnclosed, withoutInside, Noted}
 use Rattle.gathering.specs.Gathering.{listed, OnList}
 
 -- these cells, of n, have their words changed so, and no others
@@ -56,10 +56,10 @@ pub record HasList (rows cols : ℕ) (codes grid list : List ℕ) (n : ℕ) : Ty
   pub has-room : rows * cols ≤ length grid
   pub on-list : OnList rows cols list n
 
--- of the listed cells those beside an outside one are noted as divide cells
+-- of the listed cells those beside no outside one are noted as enclosed
 abbrev pub NotesCells : ℕ → ℕ → List ℕ → ℕ → List ℕ → List ℕ → List ℕ → Type 0
-NotesCells rows cols codes n list old = Changes withDivide (rows * cols)
-    (λ x. member x (listed cols list n) && besideOutside (gridOf rows cols codes) old x) old
+NotesCells rows cols codes n list old = Changes withEnclosed (rows * cols)
+    (λ x. member x (listed cols list n) && not (besideOutside (gridOf rows cols codes) old x)) old
 
 -- and the listed cells are inside no more
 abbrev pub LeavesCells : ℕ → ℕ → ℕ → List ℕ → List ℕ → List ℕ → Type 0
@@ -77,11 +77,11 @@ pub record CanNote (rows cols : ℕ) (codes outlets : List ℕ) (place : ℕ) (g
   pub none-inside : (x : ℕ) → x < rows * cols → getD grid x 0 < 2 ^ 31
   pub room : subaccumulation (gridOf rows cols codes) outlets (getD outlets place 0) ≤ length list
 
--- the cells on the divide of an outlet's subwatershed
-abbrev pub dividesOf : Grid → List ℕ → ℕ → ℕ → Bool
-dividesOf g outlets o x = inSubwatershed g outlets o x && onDivide g outlets o x
+-- the cells that an outlet's subwatershed encloses: they are in it, and not on its divide
+abbrev pub enclosedBy : Grid → List ℕ → ℕ → ℕ → Bool
+enclosedBy g outlets o x = inSubwatershed g outlets o x && not (onDivide g outlets o x)
 
 -- they are noted; of the list only as many numbers changed as the outlet has cells
-pub record NotesDivide (g : Grid) (outlets : List ℕ) (o : ℕ) (n : ℕ) (grid list grid′ list′ : List ℕ) : Type 0 where
-  pub notes : Changes withDivide n (dividesOf g outlets o) grid grid′
+pub record NotesEnclosed (g : Grid) (outlets : List ℕ) (o : ℕ) (n : ℕ) (grid list grid′ list′ : List ℕ) : Type 0 where
+  pub notes : Changes withEnclosed n (enclosedBy g outlets o) grid grid′
   pub kept : Kept (subaccumulation g outlets o) list list′

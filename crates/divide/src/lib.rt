@@ -1,10 +1,10 @@
-// The divide of a subwatershed, noted in the lent subaccumulation grid: its cells are gathered and noted as inside,
-// those beside an outside cell are noted as divide cells, and then none is inside any more.
+// The divide of a subwatershed, told by notes in the lent subaccumulation grid: its cells are gathered and noted as
+// inside, those beside no outside cell are noted as enclosed, and then none is inside any more.
 use cells::split_number;
 use gathering::gather;
 use inflows::inner_neighbour;
 use lists::index_of;
-use notes::DIVIDE;
+use notes::ENCLOSED;
 use notes::INSIDE;
 use notes::OUTLET;
 ghost use mathlib.Core.Path.{_≡_};
@@ -14,7 +14,7 @@ ghost use Rattle.lists.specs.Slices.{Within};
 ghost use Rattle.ground.specs.Grid.{gridOf};
 ghost use Rattle.inflows.specs.Values.{InnerOn};
 ghost use Rattle.divide.specs.Divides.{NotesOutlets, ClearsNotes, besideOutside, HasWords, HasList};
-ghost use Rattle.divide.specs.Divides.{NotesCells, LeavesCells, CanNote, NotesDivide};
+ghost use Rattle.divide.specs.Divides.{NotesCells, LeavesCells, CanNote, NotesEnclosed};
 
 // Notes the outlets, each of them one of the first n cells.
 pub fn note_outlets(n: usize, outlets: &[u32], grid: &mut [u32])
@@ -77,7 +77,7 @@ fn is_beside(rows: usize, cols: usize, codes: &[u8], grid: &[u32], row: usize, c
     true
 }
 
-// Notes, of the first n cells of a list, those beside an outside cell as divide cells.
+// Notes, of the first n cells of a list, those beside no outside cell as enclosed.
 fn note_cells(rows: usize, cols: usize, codes: &[u8], n: usize, list: &[u32], grid: &mut [u32])
     requires { ⌜ HasList rows cols (now codes) (now grid) (now list) n ⌝ }
     ensures { λ _. ⌜ NotesCells rows cols (now (codes .entry)) n (now (list .entry)) (now (grid .entry))
@@ -88,10 +88,10 @@ fn note_cells(rows: usize, cols: usize, codes: &[u8], n: usize, list: &[u32], gr
         let cell = index_of(list[k]);
         let row = cell / 4096;
         let col = cell % 4096;
-        if is_beside(rows, cols, codes, grid, row, col) {
+        if !is_beside(rows, cols, codes, grid, row, col) {
             let at = row * cols + col;
             let word = grid[at];
-            grid[at] = word % DIVIDE + DIVIDE + word / INSIDE * INSIDE;
+            grid[at] = word % ENCLOSED + ENCLOSED + word / INSIDE * INSIDE;
         }
         k += 1;
     }
@@ -111,8 +111,8 @@ fn leave_cells(rows: usize, cols: usize, codes: &[u8], n: usize, list: &[u32], g
     }
 }
 
-// Notes the divide cells of the subwatershed of the outlet at a place of the list.
-pub fn note_divide(
+// Notes the enclosed cells of the subwatershed of the outlet at a place of the list.
+pub fn note_enclosed(
     rows: usize,
     cols: usize,
     codes: &[u8],
@@ -122,7 +122,7 @@ pub fn note_divide(
     list: &mut [u32],
 )
     requires { ⌜ CanNote rows cols (now codes) (now outlets) place (now grid) (now list) ⌝ }
-    ensures { λ _. ⌜ NotesDivide (gridOf rows cols (now (codes .entry))) (now (outlets .entry))
+    ensures { λ _. ⌜ NotesEnclosed (gridOf rows cols (now (codes .entry))) (now (outlets .entry))
         (getD (now (outlets .entry)) place 0) (rows * cols) (now (grid .entry)) (now (list .entry))
         (now (grid .exit)) (now (list .exit)) ⌝ }
 {

@@ -4,14 +4,14 @@ use mathlib.Core.Path.{_≡_, refl, sym, ap, _∙_}
 use mathlib.Core.Bool.{Bool, true, false, cond}
 use Prim.Native.Nat.{ℕ, _+_, _*_, _/_, _%_, _≤_, _<_, _^_}
 use native.Mathlib.Omega.{arith}
-use Rattle.notes.specs.Notes.{cellsHeld, withOutlet, withDivide, withInside, withoutInside}
+use Rattle.notes.specs.Notes.{cellsHeld, withOutlet, withEnclosed, withInside, withoutInside}
 
 -- the subaccumulation stays
 pub cells-outlet : (w : ℕ) → cellsHeld (withOutlet w) ≡ cellsHeld w
 cells-outlet w = omega arith
 
-pub cells-divide : (w : ℕ) → cellsHeld (withDivide w) ≡ cellsHeld w
-cells-divide w = omega arith
+pub cells-enclosed : (w : ℕ) → cellsHeld (withEnclosed w) ≡ cellsHeld w
+cells-enclosed w = omega arith
 
 pub cells-inside : (w : ℕ) → cellsHeld (withInside w) ≡ cellsHeld w
 cells-inside w = omega arith
@@ -20,8 +20,8 @@ pub cells-left : (w : ℕ) → cellsHeld (withoutInside w) ≡ cellsHeld w
 cells-left w = omega arith
 
 -- and so does the note of an outlet
-pub outlet-divide : (w : ℕ) → withDivide w / 2 ^ 29 % 2 ≡ w / 2 ^ 29 % 2
-outlet-divide w = omega arith
+pub outlet-enclosed : (w : ℕ) → withEnclosed w / 2 ^ 29 % 2 ≡ w / 2 ^ 29 % 2
+outlet-enclosed w = omega arith
 
 pub outlet-inside : (w : ℕ) → withInside w / 2 ^ 29 % 2 ≡ w / 2 ^ 29 % 2
 outlet-inside w = omega arith
@@ -33,8 +33,8 @@ outlet-left w = omega arith
 pub outlet-again : (w : ℕ) → withOutlet (withOutlet w) ≡ withOutlet w
 outlet-again w = omega arith
 
-pub divide-again : (w : ℕ) → withDivide (withDivide w) ≡ withDivide w
-divide-again w = omega arith
+pub enclosed-again : (w : ℕ) → withEnclosed (withEnclosed w) ≡ withEnclosed w
+enclosed-again w = omega arith
 
 pub inside-again : (w : ℕ) → withInside (withInside w) ≡ withInside w
 inside-again w = omega arith

@@ -1,12 +1,13 @@
 -- The words of the lent subaccumulation grid while a tracing is at work: a cell's subaccumulation, at most 2²⁴, and above
--- it three notes, that the cell is an outlet (2²⁹), on the divide of its subwatershed (2³⁰), inside the one at hand (2³¹).
+-- it three notes, that the cell is an outlet (2²⁹), enclosed by its subwatershed (2³⁰), inside the one at hand (2³¹). An
+-- enclosed cell is one of a subwatershed and not on its divide.
 -- Assumes nothing.
 use mathlib.Core.Path.{_≡_}
 use mathlib.Core.Bool.{Bool, cond}
 use mathlib.Core.List.{List}
 use Prim.Native.Nat.{ℕ, _+_, _*_, _/_, _%_, _≤_, _<_, _^_}
 use lib.ListN.{length, getD}
-use lib.Dec.{eqb, leb}
+use lib.Dec.{eqb, ltb}
 use Rattle.lists.specs.Lists.{member}
 use Rattle.ground.specs.Grid.{Grid, cellCount}
 use Rattle.ground.specs.Accumulation.{subaccumulation}
@@ -15,16 +16,17 @@ use Rattle.ground.specs.Accumulation.{subaccumulation}
 abbrev pub cellsHeld : ℕ → ℕ
 cellsHeld word = word % 2 ^ 29
 
--- is a length met at a cell with this word: by edition 1 at a headwater, by edition 2 where the divide is noted
+-- is a length met at a cell with this word: by edition 1, without notes, at a headwater, by edition 2 where the cell is
+-- not enclosed
 abbrev pub metBy : ℕ → ℕ → Bool
-metBy edition word = cond (eqb edition 2) (leb (2 ^ 30) word) (eqb (cellsHeld word) 1)
+metBy edition word = ltb word (cond (eqb edition 2) (2 ^ 30) 2)
 
 -- a word with one note more, or without one
 abbrev pub withOutlet : ℕ → ℕ
 withOutlet word = word % 2 ^ 29 + 2 ^ 29
 
-abbrev pub withDivide : ℕ → ℕ
-withDivide word = word % 2 ^ 30 + 2 ^ 30 + word / 2 ^ 31 * 2 ^ 31
+abbrev pub withEnclosed : ℕ → ℕ
+withEnclosed word = word % 2 ^ 30 + 2 ^ 30 + word / 2 ^ 31 * 2 ^ 31
 
 abbrev pub withInside : ℕ → ℕ
 withInside word = word % 2 ^ 31 + 2 ^ 31

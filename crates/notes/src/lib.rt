@@ -14,8 +14,8 @@ pub fn is_edition(edition: u32) -> bool
 // The cell is an outlet.
 pub const OUTLET: u32 = 536870912;
 
-// The cell is on the divide of its subwatershed.
-pub const DIVIDE: u32 = 1073741824;
+// The cell is enclosed: in its subwatershed and not on the divide.
+pub const ENCLOSED: u32 = 1073741824;
 
 // The cell is inside the subwatershed at hand.
 pub const INSIDE: u32 = 2147483648;
@@ -27,12 +27,14 @@ pub fn cells_held(word: u32) -> u32
     word % OUTLET
 }
 
-// Is a length met at a cell with this word? By edition 1 at a headwater, by edition 2 where the divide is noted.
+// Is a length met at a cell with this word? By edition 1, without notes, at a headwater, by edition 2 where the cell is not
+// enclosed.
 pub fn is_met(edition: u32, word: u32) -> bool
     ensures { λ r. ⌜ r ≡ metBy edition word ⌝ }
 {
+    let mut end: u32 = 2;
     if edition == 2 {
-        return DIVIDE <= word;
+        end = ENCLOSED;
     }
-    word % OUTLET == 1
+    word < end
 }

@@ -1,16 +1,16 @@
 -- The grid made ready for searches by an edition: the notes of one outlet after the other, and what they tell.
 -- Assumes nothing.
 use mathlib.Core.Path.{_≡_, refl, sym, ap, _∙_}
-use mathlib.Core.Bool.{Bool, true, false, cond, _&&_, true≢false}
+use mathlib.Core.Bool.{Bool, true, false, cond, not, _&&_, true≢false}
 use mathlib.Core.List.{List}
 use mathlib.Core.Option.{Option, none, some}
-use Prim.Native.Nat.{ℕ, suc, _+_, _*_, _/_, _%_, _≤_, _<_, _^_}
+use Prim.Native.Nat.{ℕ, zero, suc, _+_, _*_, _/_, _%_, _≤_, _<_, _^_}
 use native.Mathlib.Omega.{arith}
 use native.Mathlib.Decide.{decLt}
 use lib.ListN.{length, getD}
-use lib.Dec.{eqb, leb}
+use lib.Dec.{eqb, ltb}
 use lib.Seq.{ext-getD}
-use borrow.Author.Tests.{le-leb, lt-leb}
+use borrow.Author.Tests.{lt-ltb, le-ltb, eq-eqb, ne-eqb}
 use Rattle.lists.specs.Slices.{Kept, Within}
 use Rattle.lists.proofs.Lists.{and-both}
 use Rattle.lists.proofs.Kept.{kept-all, kept-then, kept-wider}
@@ -21,15 +21,15 @@ use Rattle.ground.specs.Walk.{At}
 use Rattle.ground.specs.Accumulation.{subaccumulation}
 use Rattle.ground.specs.Subwatershed.{isOutlet, inSubwatershed}
 use Rattle.ground.specs.Divide.{onDivide}
-use Rattle.ground.specs.Forest.{forest}
+use Rattle.ground.specs.Forest.{size, forest}
 use Rattle.ground.proofs.Cells.{null-sub, ground-within}
-use Rattle.ground.proofs.Ground.{sub-at-most}
+use Rattle.ground.proofs.Ground.{sub-size, sub-at-most}
 use Rattle.ground.proofs.Subwatersheds.{true-belongs}
 use Rattle.search.specs.Editions.{meetsBy}
 use Rattle.search.proofs.Faithful.{headwater-is}
-use Rattle.moves.proofs.Spots.{size}
-use Rattle.notes.specs.Notes.{cellsHeld, withDivide, Noted}
-use Rattle.divide.specs.Divides.{Changes, NotesOutlets, CanNote, dividesOf, NotesDivide, ClearsNotes}
+use Rattle.moves.proofs.Spots as spots
+use Rattle.notes.specs.Notes.{cellsHeld, withEnclosed, Noted}
+use Rattle.divide.specs.Divides.{Changes, NotesOutlets, CanNote, enclosedBy, NotesEnclosed, ClearsNotes}
 use Rattle.divide.proofs.Outside.{inside-ground, inside-within}
 use Rattle.divide.proofs.Noting.{outlets-noted, outlets-small, still-noted, still-none-inside}
 use Rattle.upstream.specs.Ready.{Ready, metIn, MetAt}
@@ -44,14 +44,19 @@ one-outlet g outlets o p x i k =
     let s = true-belongs squares (next g) (isOutlet g outlets) (cellCount g) p x k in
     ap (λ (a : Option (At Length)). elim a [ none ↦ o | some b ↦ b .cell ]) (sym (r .1) ∙ s .1)
 
--- the outlets are noted, and of the outlets from one place to before another the divides, and no others
+-- a number from 1 on is below 2 if it is 1
+low-one : (n m : ℕ) → n ≡ suc m → ltb n 2 ≡ eqb n 1
+low-one n zero e = lt-ltb n 2 (omega arith) ∙ sym (eq-eqb n 1 e)
+low-one n (suc m) e = le-ltb n 2 (omega arith) ∙ sym (ne-eqb n 1 (λ k. omega arith))
+
+-- the outlets are noted, and the cells that those from one place to before another enclose, and no others
 pub record Marked (rows cols : ℕ) (codes outlets : List ℕ) (first k : ℕ) (words : List ℕ) : Type 0 where
   pub noted : Noted (gridOf rows cols codes) outlets words
   pub none-inside : (x : ℕ) → x < rows * cols → getD words x 0 < 2 ^ 31
   pub marked : (j : ℕ) → first ≤ j → j < k → (x : ℕ)
-      → dividesOf (gridOf rows cols codes) outlets (getD outlets j 0) x ≡ true → 2 ^ 30 ≤ getD words x 0
+      → enclosedBy (gridOf rows cols codes) outlets (getD outlets j 0) x ≡ true → 2 ^ 30 ≤ getD words x 0
   pub only : (x : ℕ) → x < rows * cols → 2 ^ 30 ≤ getD words x 0
-      → (j : ℕ) × (first ≤ j) × (j < k) × (dividesOf (gridOf rows cols codes) outlets (getD outlets j 0) x ≡ true)
+      → (j : ℕ) × (first ≤ j) × (j < k) × (enclosedBy (gridOf rows cols codes) outlets (getD outlets j 0) x ≡ true)
 
 -- a list changed in no more numbers than the largest of these outlets has cells
 abbrev pub ListKept : (rows cols : ℕ) (codes outlets : List ℕ) (first end : ℕ) → List ℕ → List ℕ → Type 0
@@ -73,7 +78,7 @@ module _ {rows cols : ℕ} {codes outlets old : List ℕ} (fresh : Fresh rows co
   o j = getD outlets j 0
 
   pub few : rows * cols ≤ 2 ^ 24
-  few = size (fresh .lent-grid .sides)
+  few = spots.size (fresh .lent-grid .sides)
 
   small-sub : (x : ℕ) → subaccumulation g outlets x ≤ 2 ^ 24
   small-sub x = go (ground g x) refl
@@ -108,7 +113,9 @@ module _ {rows cols : ℕ} {codes outlets old : List ℕ} (fresh : Fresh rows co
       → Readied edition rows cols codes outlets first end old list old list
   ready-plain {edition} {first} {end} e in-list = record {
     ready = made (fresh .has-room) held;
-    met = λ j a b x i. rw e (ap (λ (n : ℕ). eqb n 1) (held x (within j b x i))
+    met = λ j a b x i. rw e (ap (λ (n : ℕ). ltb n 2) (fresh .filled x (within j b x i))
+        ∙ low-one (subaccumulation g outlets x) (size (forest g outlets x))
+        (sub-size g (fresh .accumulation) (fresh .agreed) outlets x (solid j b x i))
         ∙ sym (headwater-is g (fresh .accumulation) (fresh .agreed) outlets x (solid j b x i)));
     kept = kept-all;
     unnoted = λ f. refl;
@@ -121,7 +128,7 @@ module _ {rows cols : ℕ} {codes outlets old : List ℕ} (fresh : Fresh rows co
       within : (j : ℕ) → j < end → (x : ℕ) → inSubwatershed g outlets (o j) x ≡ true → x < rows * cols
       within j b x i = ground-within g x (solid j b x i)
 
-  -- ---- BY EDITION 2: the divides of the outlets from one place to before another are noted, and no others
+  -- ---- BY EDITION 2 the enclosed cells are noted, one outlet after the other
 
   module _ (first : ℕ) where
     pub marked-begin : {words : List ℕ} → NotesOutlets (rows * cols) outlets old words → Marked rows cols codes outlets first first words
@@ -147,33 +154,33 @@ module _ {rows cols : ℕ} {codes outlets old : List ℕ} (fresh : Fresh rows co
         room = r;
       }
 
-      pub marked-next : {new : List ℕ} → first ≤ k → Changes withDivide (rows * cols) (dividesOf g outlets (o k)) words new
+      pub marked-next : {new : List ℕ} → first ≤ k → Changes withEnclosed (rows * cols) (enclosedBy g outlets (o k)) words new
           → Marked rows cols codes outlets first (k + 1) new
       marked-next {new} a c = record {
         noted = still-noted c (m .noted);
         none-inside = λ x h. still-none-inside c x (m .none-inside x h);
         marked = λ j p q x d. elim (decLt j k) [
           | yes l ↦ stays x (m .marked j p l x d)
-          | no l ↦ comes x (sym (ap (λ (i : ℕ). dividesOf g outlets (o i) x) (same j l q)) ∙ d)
+          | no l ↦ comes x (sym (ap (λ (i : ℕ). enclosedBy g outlets (o i) x) (same j l q)) ∙ d)
         ];
-        only = λ x h p. from x h p (dividesOf g outlets (o k) x) refl;
+        only = λ x h p. from x h p (enclosedBy g outlets (o k) x) refl;
       }
         where
           same : (j : ℕ) → (j < k → ⊥) → j < k + 1 → j ≡ k
           same j l q = omega arith
 
-          grown : (b : Bool) (w : ℕ) → 2 ^ 30 ≤ w → 2 ^ 30 ≤ cond b (withDivide w) w
+          grown : (b : Bool) (w : ℕ) → 2 ^ 30 ≤ w → 2 ^ 30 ≤ cond b (withEnclosed w) w
           grown true w h = omega arith
           grown false w h = h
 
           stays : (x : ℕ) → 2 ^ 30 ≤ getD words x 0 → 2 ^ 30 ≤ getD new x 0
-          stays x h = omega (arith, c .words x, grown (dividesOf g outlets (o k) x) (getD words x 0) h)
+          stays x h = omega (arith, c .words x, grown (enclosedBy g outlets (o k) x) (getD words x 0) h)
 
-          comes : (x : ℕ) → dividesOf g outlets (o k) x ≡ true → 2 ^ 30 ≤ getD new x 0
-          comes x d = let e : getD new x 0 ≡ withDivide (getD words x 0) = c .words x ∙ rw d in omega (arith, e)
+          comes : (x : ℕ) → enclosedBy g outlets (o k) x ≡ true → 2 ^ 30 ≤ getD new x 0
+          comes x d = let e : getD new x 0 ≡ withEnclosed (getD words x 0) = c .words x ∙ rw d in omega (arith, e)
 
-          from : (x : ℕ) → x < rows * cols → 2 ^ 30 ≤ getD new x 0 → (b : Bool) → dividesOf g outlets (o k) x ≡ b
-              → (j : ℕ) × (first ≤ j) × (j < k + 1) × (dividesOf g outlets (o j) x ≡ true)
+          from : (x : ℕ) → x < rows * cols → 2 ^ 30 ≤ getD new x 0 → (b : Bool) → enclosedBy g outlets (o k) x ≡ b
+              → (j : ℕ) × (first ≤ j) × (j < k + 1) × (enclosedBy g outlets (o j) x ≡ true)
           from x h p true d = (k, a, omega arith, d)
           from x h p false d =
               let e : getD new x 0 ≡ getD words x 0 = c .words x ∙ rw d in
@@ -183,24 +190,24 @@ module _ {rows cols : ℕ} {codes outlets old : List ℕ} (fresh : Fresh rows co
     -- THE NOTES TELL where a length is met
     module _ {end : ℕ} (in-list : end ≤ length outlets) {words : List ℕ} (m : Marked rows cols codes outlets first end words) where
       told : (j : ℕ) → first ≤ j → j < end → (x : ℕ) → inSubwatershed g outlets (o j) x ≡ true
-          → leb (2 ^ 30) (getD words x 0) ≡ onDivide g outlets (o j) x
+          → ltb (getD words x 0) (2 ^ 30) ≡ onDivide g outlets (o j) x
       told j a b x i = go (onDivide g outlets (o j) x) refl
         where
           within : x < rows * cols
           within = inside-within g outlets (o j) (fresh .on-ground j (omega arith)) x i
 
-          go : (d : Bool) → onDivide g outlets (o j) x ≡ d → leb (2 ^ 30) (getD words x 0) ≡ d
-          go true d = le-leb (2 ^ 30) (getD words x 0) (m .marked j a b x (rw (i, d)))
-          go false d = elim (decLt (getD words x 0) (2 ^ 30)) [
-            | yes l ↦ lt-leb (2 ^ 30) (getD words x 0) l
+          go : (d : Bool) → onDivide g outlets (o j) x ≡ d → ltb (getD words x 0) (2 ^ 30) ≡ d
+          go false d = le-ltb (getD words x 0) (2 ^ 30) (m .marked j a b x (rw (i, d)))
+          go true d = elim (decLt (getD words x 0) (2 ^ 30)) [
+            | yes l ↦ lt-ltb (getD words x 0) (2 ^ 30) l
             | no l ↦ absurd (other (m .only x within (omega arith)))
           ]
             where
-              other : (p : ℕ) × (first ≤ p) × (p < end) × (dividesOf g outlets (o p) x ≡ true) → ⊥
+              other : (p : ℕ) × (first ≤ p) × (p < end) × (enclosedBy g outlets (o p) x ≡ true) → ⊥
               other r =
-                  let q = and-both (inSubwatershed g outlets (o (r .0)) x) (onDivide g outlets (o (r .0)) x) (r .3) in
+                  let q = and-both (inSubwatershed g outlets (o (r .0)) x) (not (onDivide g outlets (o (r .0)) x)) (r .3) in
                   let e = one-outlet g outlets (o (r .0)) (o j) x (q .0) i in
-                  true≢false (sym (q .1) ∙ ap (λ (y : ℕ). onDivide g outlets y x) e ∙ d)
+                  true≢false (sym (q .1) ∙ ap (λ (y : ℕ). not (onDivide g outlets y x)) e ∙ ap not d)
 
       pub ready-marked : {edition : ℕ} {list list′ : List ℕ} → eqb edition 2 ≡ true → Kept (rows * cols) old words
           → ListKept rows cols codes outlets first end list list′

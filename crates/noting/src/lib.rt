@@ -1,7 +1,7 @@
 // The lent subaccumulation grid made ready for searches by an edition, and as it was after them. Edition 1 asks for
-// nothing; by edition 2 outlets and divide cells are noted.
+// nothing; by edition 2 outlets and enclosed cells are noted.
 use divide::clear_notes;
-use divide::note_divide;
+use divide::note_enclosed;
 use divide::note_outlets;
 ghost use Prim.Native.Nat.{_≤_};
 ghost use lib.ListN.{length};
@@ -31,7 +31,7 @@ pub fn make_ready(
     note_outlets(rows * cols, outlets, subaccumulation);
     let mut j = first;
     while j < end {
-        note_divide(rows, cols, codes, outlets, j, subaccumulation, list);
+        note_enclosed(rows, cols, codes, outlets, j, subaccumulation, list);
         j += 1;
     }
 }

@@ -108,9 +108,8 @@ fn put_inflows(
     at
 }
 
-// The inflows of a cell of n cells are put on. A headwater has none. A short list of outlets is looked through; of a
-// long one, nothing is looked for where the subaccumulations of all that flows in add up to those cells: no outlet
-// flows in.
+// The inflows of a cell of n cells are put on. A short list of outlets is looked through; of a long one, nothing is
+// looked for where the subaccumulations of all that flows in add up to those cells: no outlet flows in.
 fn climb(
     rows: usize,
     cols: usize,
@@ -131,9 +130,6 @@ fn climb(
     ensures { λ r. ⌜ PutOn (allAbove rows cols (now (codes .entry)) (now (outlets .entry)) row col len) top
         (now (work .entry)) r (now (work .exit)) ⌝ }
 {
-    if n == 1 {
-        return top;
-    }
     if outlets.len() < 16 {
         return put_inflows(rows, cols, codes, outlets, row, col, len, top, work);
     }
@@ -144,7 +140,7 @@ fn climb(
     put_inflows(rows, cols, codes, outlets, row, col, len, top, work)
 }
 
-// A cell is visited at its length, met or not by the edition, and its inflows wait.
+// A cell is visited at its length, met or not by the edition, and its inflows wait. A headwater has none.
 fn enter_cell(
     rows: usize,
     cols: usize,
@@ -169,7 +165,14 @@ fn enter_cell(
     let at = row * cols + col;
     let word = subaccumulation[at];
     let n = cells_held(word);
-    let progress = visit(work, end, at as u32, is_met(edition, word), len, p);
+    let met = is_met(edition, word);
+    if n == 1 {
+        return Stack {
+            progress: visit(work, end, at as u32, met, len, p),
+            top,
+        };
+    }
+    let progress = visit(work, end, at as u32, met, len, p);
     let higher = climb(
         rows,
         cols,

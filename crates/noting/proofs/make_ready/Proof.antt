@@ -44,8 +44,8 @@ loop-holds c =
       λ most f. kept-all,
     )
 
-note-divide-requires : tie.Need-note-divide-requires Inv-loop μ-loop
-note-divide-requires c κs =
+note-enclosed-requires : tie.Need-note-enclosed-requires Inv-loop μ-loop
+note-enclosed-requires c κs =
     let l = c .before .before .before in
     let s = l .before .before .before .before .before .before .before .before .before .before in
     let i = l .loop .inv in
@@ -69,7 +69,7 @@ loop-again c =
     let s = l .before .before .before .before .before .before .before .before .before .before in
     let a = s .args in
     let i = l .loop .inv in
-    let d = n .note-divide .ensures in (
+    let d = n .note-enclosed .ensures in (
       omega (arith, i .0),
       omega arith,
       marked-next (s .pre .0) (a .first) (i .2) (i .0) (d .notes),
@@ -112,7 +112,7 @@ make-ready-spec =
     mul-note-outlets
     note-outlets-requires
     loop-holds
-    note-divide-requires
+    note-enclosed-requires
     add-j
     loop-less
     loop-again

@@ -1,9 +1,9 @@
--- `divide::note_divide` meets its contract: the cells are gathered, noted and left.
+-- `divide::note_enclosed` meets its contract: the cells are gathered, noted and left.
 -- Assumes nothing.
 use borrow.Author.Needs.{needs}
-use Rattle.divide.proofs.Gathered.{can-gather, divide-made}
-use Rattle.divide.proofs.note_divide.Statement.{statement}
-use Rattle.divide.proofs.note_divide.Tie as tie
+use Rattle.divide.proofs.Gathered.{can-gather, enclosed-made}
+use Rattle.divide.proofs.note_enclosed.Statement.{statement}
+use Rattle.divide.proofs.note_enclosed.Tie as tie
 
 mul-split-number : tie.Need-mul-split-number
 mul-split-number c = search needs
@@ -37,11 +37,11 @@ returns c =
     let noted = left .before .before .before .before .before in
     let gathered = noted .before .before .before .before .before .before .before in
     let split = gathered .before .before .before in
-    divide-made (split .before .before .before .before .before .before .pre) (split .split-number .ensures)
+    enclosed-made (split .before .before .before .before .before .before .pre) (split .split-number .ensures)
     (gathered .gather .ensures) (noted .note-cells .ensures) (left .leave-cells .ensures)
 
-pub note-divide-spec : {M : Type 1} → statement M
-note-divide-spec =
+pub note-enclosed-spec : {M : Type 1} → statement M
+note-enclosed-spec =
     tie.close
     (tie.spec
     mul-split-number
