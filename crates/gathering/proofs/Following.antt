@@ -146,6 +146,11 @@ module _ {n : ℕ} where
       twice true false w = refl
       twice false b w = refl
 
+  -- the same cells in another order
+  pub enter-same : {xs ys : List ℕ} {old new : List ℕ} → ((x : ℕ) → member x ys ≡ member x xs) → Enters n xs old new
+      → Enters n ys old new
+  enter-same same p = record { kept = p .kept; words = λ x. rw (same x) (p .words x) }
+
 -- the subaccumulations and the notes of the outlets stay
 pub noted-still : {g : Grid} {outlets cells old new : List ℕ} → Noted g outlets old → Enters (cellCount g) cells old new
     → Noted g outlets new

@@ -8,7 +8,7 @@ use Prim.Native.Nat.{ℕ, zero, suc, _+_, _≤_, _<_}
 use native.Mathlib.Numerals.{add-one}
 use native.Mathlib.Omega.{arith}
 use borrow.Author.Count.{below-more}
-use lib.ListN.{length, getD, drop, length-append, length-drop, List·getD-append}
+use lib.ListN.{length, getD, take, drop, length-map, length-append, length-drop, take-append-drop, List·getD-append}
 use lib.Seq.{drop-append-le}
 use Rattle.lists.specs.Lists.{In, Every, member, sumOf}
 use Rattle.lists.proofs.Lists.{every-append, every-at, every-in, every-is, in-left, in-right}
@@ -22,8 +22,10 @@ use Rattle.ground.proofs.Network.{first-out, first-next, first-induct}
 use Rattle.ground.proofs.Subwatersheds.{first-meets, belongs-true, true-belongs}
 use Rattle.ground.proofs.Ground.{𝓝, sub-size, inside-test}
 use Rattle.search.proofs.Neighbours.{cells-above}
-use Rattle.gathering.specs.Gathering.{tributaries}
+use Rattle.gathering.specs.Gathering.{tributaries, exchanged}
 use Rattle.gathering.proofs.Tributaries.{joins, joined, from-cells}
+use Rattle.gathering.proofs.Exchanging.{Exchange, exchange, every-still, in-still, take-before}
+use Rattle.gathering.proofs.Exchanging.{map-exchanged, sum-exchanged}
 
 every-drop : (P : ℕ → Type 0) (k : ℕ) (xs : List ℕ) → Every P xs → Every P (drop k xs)
 every-drop P zero xs h = h
@@ -34,6 +36,11 @@ sum-append : (f : ℕ → ℕ) (xs ys : List ℕ) → sumOf (map f (xs ++ ys)) �
 unfolding sumOf
 sum-append f [] ys = omega arith
 sum-append f (x ∷ xs) ys = omega (arith, sum-append f xs ys)
+
+sum-split : (f : ℕ → ℕ) (k : ℕ) (xs : List ℕ)
+    → sumOf (map f (take k xs)) + sumOf (map f (drop k xs)) ≡ sumOf (map f xs)
+sum-split f k xs = sym (sum-append f (take k xs) (drop k xs))
+    ∙ ap (λ (l : List ℕ). sumOf (map f l)) (take-append-drop k xs)
 
 -- an outlet of ground, where some accumulation agrees
 pub record Outlet (g : Grid) (outlets : List ℕ) (o : ℕ) : Type 0 where
@@ -150,6 +157,31 @@ module _ {g : Grid} {outlets : List ℕ} {o : ℕ} (out : Outlet g outlets o) wh
       still : (i : ℕ) → i < length cells → (y : ℕ) → In y (tributaries g outlets (getD (cells ++ more) i 0) dirs)
           → In y (tributaries g outlets (getD cells i 0) dirs)
       still i l y m = subst (λ (c : ℕ). In y (tributaries g outlets c dirs)) (List·getD-append cells more 0 i l) m
+
+  -- ---- another cell next
+
+  pub reached-exchanged : {k l : ℕ} {cells : List ℕ} → Reached g outlets o k cells → k ≤ l → l < length cells
+      → Reached g outlets o k (exchanged cells k l)
+  reached-exchanged {k} {l} {cells} r h i = record {
+    within = omega (arith, r .within, e .same-length);
+    starts = in-still e o (r .starts);
+    inside = every-still e (Inside g outlets o) (r .inside);
+    followed = λ j m y t. in-still e y (r .followed j m y
+        (subst (λ (c : ℕ). In y (tributaries g outlets c dirs))
+        (e .at-others j (λ q. omega arith) (λ q. omega arith)) t));
+    counted = omega (
+      arith,
+      r .counted,
+      sum-split sub k cells,
+      sum-split sub k (exchanged cells k l),
+      ap (λ (xs : List ℕ). sumOf (map sub xs)) (take-before cells k l h),
+      ap sumOf (map-exchanged sub cells k l (omega arith) i),
+      sum-exchanged (map sub cells) k l (omega (arith, length-map cells sub)) (omega (arith, length-map cells sub)),
+    );
+  }
+    where
+      e : Exchange cells (exchanged cells k l) k l
+      e = exchange cells k l (omega arith) i
 
   -- ---- at the end
 

@@ -4,8 +4,8 @@ use mathlib.Core.Path.{_≡_}
 use mathlib.Core.Bool.{true, cond}
 use mathlib.Core.List.{List, [], _∷_, _++_, map}
 use mathlib.Core.Option.{Option, none, some}
-use Prim.Native.Nat.{ℕ, _+_, _*_, _/_, _%_, _≤_, _<_}
-use lib.ListN.{length, getD, take}
+use Prim.Native.Nat.{ℕ, _+_, _-_, _*_, _/_, _%_, _≤_, _<_}
+use lib.ListN.{length, getD, set, take}
 use Rattle.lists.specs.Lists.{member}
 use Rattle.lists.specs.Slices.{Kept}
 use Rattle.ground.specs.Compass.{Dir}
@@ -65,6 +65,15 @@ pub record ListsFrom (rows cols : ℕ) (codes outlets : List ℕ) (row col : ℕ
     (r : ℕ) (grid′ list′ : List ℕ) : Type 0 where
   pub follow : Follow rows cols (tributaries (gridOf rows cols codes) outlets (row * cols + col) ds) n list r list′
   pub enters : Enters (rows * cols) (tributaries (gridOf rows cols codes) outlets (row * cols + col) ds) grid grid′
+
+-- a list in which number k and number l changed places
+unfoldable pub exchanged : List ℕ → ℕ → ℕ → List ℕ
+exchanged list k l = set (set list l (getD list k 0)) k (getD list l 0)
+
+-- the last of n numbers stands at k now, and is answered
+pub record NewestFirst (k n : ℕ) (list : List ℕ) (r : ℕ) (list′ : List ℕ) : Type 0 where
+  pub list-is : list′ ≡ exchanged list k (n - 1)
+  pub number : r ≡ getD list′ k 0
 
 -- an outlet of the list, with room for the cells of its subwatershed
 pub record CanGather (rows cols : ℕ) (codes outlets : List ℕ) (row col : ℕ) (grid list : List ℕ) : Type 0 where

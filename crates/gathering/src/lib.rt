@@ -6,12 +6,12 @@ use moves::inflow_from;
 use notes::INSIDE;
 use notes::OUTLET;
 ghost use mathlib.Core.List.{[], _∷_};
-ghost use Prim.Native.Nat.{_*_, _+_, _<_};
+ghost use Prim.Native.Nat.{_*_, _+_, _≤_, _<_};
 ghost use lib.ListN.{length};
 ghost use Rattle.ground.specs.Compass.{dirs};
 ghost use Rattle.ground.specs.Grid.{gridOf};
 ghost use Rattle.moves.specs.Moves.{dirAt};
-ghost use Rattle.gathering.specs.Gathering.{tributaries, CanFollow, ListsFrom, CanGather, Gathers};
+ghost use Rattle.gathering.specs.Gathering.{tributaries, CanFollow, ListsFrom, NewestFirst, CanGather, Gathers};
 
 // Neighbour k of a cell, if it flows in and is no outlet, is entered and follows n others in the list.
 fn list_inflow(
@@ -72,6 +72,19 @@ fn list_inflows(
     end
 }
 
+// The last of n listed numbers changes places with number k, and is answered: of the cells still to be followed the
+// newest comes first, which lies near the one before it.
+fn newest_first(k: usize, n: usize, list: &mut [u32]) -> usize
+    requires { ⌜ (k < n) × (n ≤ length (now list)) ⌝ }
+    ensures { λ r. ⌜ NewestFirst k n (now (list .entry)) r (now (list .exit)) ⌝ }
+{
+    let last = n - 1;
+    let number = list[last];
+    list[last] = list[k];
+    list[k] = number;
+    index_of(number)
+}
+
 // Lists the cells of the subwatershed of an outlet in the first places of a list, and notes each as inside. It answers
 // how many there are.
 pub fn gather(
@@ -94,7 +107,7 @@ pub fn gather(
     let mut n: usize = 1;
     let mut k: usize = 0;
     while k < n {
-        let cell = index_of(list[k]);
+        let cell = newest_first(k, n, list);
         n = list_inflows(
             rows,
             cols,

@@ -101,9 +101,9 @@ module _ {rows cols : ℕ} {codes outlets subaccumulations : List ℕ}
   -- ---- the outlets that flow in
 
   abbrev value : Dir → ℕ
-  value d = inflowValue g subaccumulations d (neighbour g x d)
+  value d = cellsHeld (inflowValue g subaccumulations d (neighbour g x d))
 
-  -- a direction in which no outlet flows in, and one in which an outlet does. A word is no less than the cells it holds
+  -- a direction in which no outlet flows in, and one in which an outlet does
   side : (d : Dir)
       → ((inflowIn g [] x d ≡ inflowIn g outlets x d) × (cellsOf g outlets (inflowIn g outlets x d) ≤ value d))
       ⊎ ((cellsOf g outlets (inflowIn g outlets x d) ≡ 0) × (1 ≤ value d))
@@ -160,7 +160,7 @@ module _ {rows cols : ℕ} {codes outlets subaccumulations : List ℕ}
         }
 
     pub no-outlet : {values : List ℕ} → values ≡ inflowRecord g subaccumulations x → {n : ℕ} → n ≡ sub x
-        → sumOf values ≡ n - 1 → inflowsAbove g [] x len dirs ≡ inflowsAbove g outlets x len dirs
+        → sumOf (map cellsHeld values) ≡ n - 1 → inflowsAbove g [] x len dirs ≡ inflowsAbove g outlets x len dirs
     unfolding inflowRecord
     no-outlet v {n} is-n e = alike dirs .same
-        (omega (arith, ap sumOf v, e, is-n, cells-above g (ready .lent) (ready .agreed) outlets x (at .solid)))
+        (omega (arith, ap (λ (ws : List ℕ). sumOf (map cellsHeld ws)) v, e, is-n, cells-above g (ready .lent) (ready .agreed) outlets x (at .solid)))

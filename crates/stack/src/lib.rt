@@ -1,4 +1,5 @@
 // The search from pending cells, which stand at the front of the lent working space.
+use inflows::Inflows;
 use inflows::inflows_of;
 use lengths::Length;
 use lists::index_of;
@@ -14,11 +15,13 @@ use progress::visit;
 use upstream::step_at;
 use upstream::tributary_from;
 ghost use mathlib.Core.Path.{_≡_};
-ghost use mathlib.Core.List.{[], _∷_};
+ghost use mathlib.Core.List.{[], _∷_, map};
 ghost use Prim.Native.Nat.{_+_, _*_, _≤_, _<_};
 ghost use lib.ListN.{length};
+ghost use Rattle.lists.specs.Lists.{sumOf};
 ghost use Rattle.search.specs.Tracing.{numbersEach};
 ghost use Rattle.moves.specs.Lent.{OnCell};
+ghost use Rattle.notes.specs.Notes.{cellsHeld};
 ghost use Rattle.upstream.specs.Ready.{Ready, OnGround, cellsAt, metIn};
 ghost use Rattle.stack.specs.Pending.{Short, pendingAt, pendingWith, allAbove, PutOn};
 ghost use Rattle.stack.specs.Draining.{Fits, CellEntered, StackStands, StackTurned, StackTraced};
@@ -108,6 +111,20 @@ fn put_inflows(
     at
 }
 
+// The cells that the words of an inflow record hold, in 64 bits so that they cannot overflow.
+fn cells_above(inflows: Inflows) -> u64
+    ensures { λ r. ⌜ r ≡ sumOf (map cellsHeld (inflows .values)) ⌝ }
+{
+    let values = inflows.values;
+    let mut total: u64 = 0;
+    let mut i: usize = 0;
+    while i < 8 {
+        total += wide(cells_held(values[i]));
+        i += 1;
+    }
+    total
+}
+
 // The inflows of a cell of n cells are put on. A short list of outlets is looked through; of a long one, nothing is
 // looked for where the subaccumulations of all that flows in add up to those cells: no outlet flows in.
 fn climb(
@@ -134,7 +151,8 @@ fn climb(
         return put_inflows(rows, cols, codes, outlets, row, col, len, top, work);
     }
     let none = &outlets[..0];
-    if inflows_of(rows, cols, codes, subaccumulation, row, col).sum() == wide(n - 1) {
+    let inflows = inflows_of(rows, cols, codes, subaccumulation, row, col);
+    if cells_above(inflows) == wide(n - 1) {
         return put_inflows(rows, cols, codes, none, row, col, len, top, work);
     }
     put_inflows(rows, cols, codes, outlets, row, col, len, top, work)

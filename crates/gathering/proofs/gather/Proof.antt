@@ -1,4 +1,4 @@
--- `gathering::gather` meets its contract: each listed cell in turn has its tributaries listed after it.
+-- `gathering::gather` meets its contract: the newest listed cell is always the next to have its tributaries listed.
 -- Assumes nothing.
 use Prim.Native.Nat.{_+_, _-_, _*_}
 use native.Mathlib.Omega.{arith}
@@ -53,14 +53,8 @@ slice-write-list c = some-room (c .before .before .before .before .before .pre)
 loop-holds : tie.Need-loop-holds Inv-loop μ-loop
 loop-holds c = gathered-first (c .before .before .before .before .before .pre)
 
-mul-index-of : tie.Need-mul-index-of Inv-loop μ-loop
-mul-index-of c = search needs
-
-slice-read-index-of : tie.Need-slice-read-index-of Inv-loop μ-loop
-slice-read-index-of c = search needs
-
-index-of-requires : tie.Need-index-of-requires Inv-loop μ-loop
-index-of-requires c κs = search needs
+newest-first-requires : tie.Need-newest-first-requires Inv-loop μ-loop
+newest-first-requires c κs = search needs
 
 -- the function's start, seen from within the loop
 abbrev start : tie.In-loop Inv-loop μ-loop → tie.Start Inv-loop μ-loop
@@ -68,8 +62,9 @@ start c = c .before .before .before .before .before .before .before
 
 list-inflows-requires : tie.Need-list-inflows-requires Inv-loop μ-loop
 list-inflows-requires c κs =
-    let i = c .before .before .before .before in
-    can-follow (start i .pre) (i .before .loop .inv) (i .loop-test .taken) (c .before .before .index-of .ensures .0)
+    let i = c .before .before .before .before .before .before in
+    can-follow (start i .pre) (i .before .loop .inv) (i .loop-test .taken)
+    (c .before .before .before .before .newest-first .ensures)
 
 add-k : tie.Need-add-k Inv-loop μ-loop
 add-k c = search needs
@@ -80,9 +75,10 @@ loop-less c = search needs
 loop-again : tie.Need-loop-again Inv-loop μ-loop
 loop-again c =
     let l = c .before .before .before .before in
-    let i = l .before .before .before .before .before in
-    gathered-next (start i .pre) (i .before .loop .inv) (i .loop-test .taken)
-    (l .before .before .before .index-of .ensures .0) (l .list-inflows .ensures)
+    let m = l .before .before .before .before .before in
+    let i = m .before .before in
+    gathered-next (start i .pre) (i .before .loop .inv) (i .loop-test .taken) (m .newest-first .ensures)
+    (l .list-inflows .ensures)
 
 -- what is gathered at the end
 end : (c : tie.After-loop Inv-loop μ-loop) → let a = c .before .before .before .before .before .before .before .args in
@@ -118,9 +114,7 @@ gather-spec =
     cast-list
     slice-write-list
     loop-holds
-    mul-index-of
-    slice-read-index-of
-    index-of-requires
+    newest-first-requires
     list-inflows-requires
     add-k
     loop-less

@@ -30,7 +30,7 @@ alike c =
     let s = start-sum c in
     no-outlet (s .pre .0) (s .pre .1 .0) (s .args .len)
     (c .before .before .before .inflows-of .ensures) (s .pre .1 .1 .0)
-    (omega (arith, c .before .before .sum .ensures, c .if2 .taken, c .before .wide .ensures .0))
+    (omega (arith, c .before .before .cells-above .ensures, c .if2 .taken, c .before .wide .ensures .0))
 
 put-inflows-requires : tie.Need-put-inflows-requires
 put-inflows-requires c κs =
@@ -54,8 +54,8 @@ slice-aggregate-none c = search needs
 inflows-of-requires : tie.Need-inflows-of-requires
 inflows-of-requires c κs = search needs
 
-sum-requires : tie.Need-sum-requires
-sum-requires c κs = search needs
+cells-above-requires : tie.Need-cells-above-requires
+cells-above-requires c κs = search needs
 
 sub-wide : tie.Need-sub-wide
 sub-wide c = let s = start (c .before .before .before) in
@@ -116,7 +116,7 @@ climb-spec =
     returns
     slice-aggregate-none
     inflows-of-requires
-    sum-requires
+    cells-above-requires
     sub-wide
     wide-requires
     put-inflows-requires-2
