@@ -13,7 +13,6 @@ use lib.Dec.{eqb}
 use borrow.Author.Count.{below-more}
 use borrow.Author.Tests.{eqb-true, eqb-false}
 use Rattle.lists.specs.Lists.{member}
-use Rattle.lists.specs.Slices.{Kept}
 use Rattle.lists.proofs.Kept.{kept-all, kept-then, kept-wider, kept-set}
 use Rattle.ground.specs.Grid.{Grid, cellCount}
 use Rattle.moves.specs.Lent.{Sides}

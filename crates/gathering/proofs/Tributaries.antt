@@ -1,7 +1,7 @@
 -- What flows into a cell and is no outlet: direction by direction, and by the walk.
 -- Assumes nothing.
 use mathlib.Core.Path.{_≡_, refl, sym, ap, _∙_, subst}
-use mathlib.Core.Bool.{Bool, true, false, cond}
+use mathlib.Core.Bool.{true, false}
 use mathlib.Core.Logic.{inl, inr}
 use mathlib.Core.List.{List, [], _∷_, _++_, map}
 use mathlib.Core.Option.{Option, none, some}
@@ -12,7 +12,7 @@ use lib.ListN.{length, take, drop, length-append, take-append-drop}
 use lib.Seq.{take-suc}
 use Rattle.lists.specs.Lists.{In, member, sumOf}
 use Rattle.ground.specs.Compass.{Dir, NE, dirs, opposite}
-use Rattle.ground.specs.Grid.{Grid, Link, gridOf, ground, codeAt, neighbour, next, flowsIn}
+use Rattle.ground.specs.Grid.{Grid, Link, gridOf, ground, codeAt, next, flowsIn}
 use Rattle.ground.specs.Tables.{pointsIn}
 use Rattle.ground.specs.Accumulation.{subaccumulation}
 use Rattle.ground.proofs.Tables.{all-dirs}
@@ -20,10 +20,11 @@ use Rattle.ground.proofs.Cells.{opposite-twice, flow-points}
 use Rattle.ground.proofs.GridNetwork.{stepped, next-back, inflow-next}
 use Rattle.moves.specs.declared.Spot.{Spot}
 use Rattle.moves.specs.declared.Spot.the-variants.{Off, On}
-use Rattle.moves.specs.Moves.{spotCell, dirAt}
-use Rattle.moves.specs.Walks.{ifFlowsIn, inflowFrom, FlowsFrom}
-use Rattle.search.specs.Neighbours.{unlessOutlet, inflowIn, cellsIn}
+use Rattle.moves.specs.Moves.{dirAt}
+use Rattle.moves.specs.Walks.{FlowsFrom}
+use Rattle.search.specs.Neighbours.{inflowIn, cellsIn}
 use Rattle.search.proofs.Neighbours.{found-in}
+use Rattle.upstream.proofs.Turning.{turns-is}
 use Rattle.gathering.specs.Gathering.{withSome, tributaries}
 
 some-append : (o : Option ℕ) (xs ys : List ℕ) → withSome o (xs ++ ys) ≡ withSome o xs ++ ys
@@ -135,21 +136,6 @@ joined g outlets y h e o = in-from g outlets (h .cell) y (opposite (h .step)) th
 
 -- ---- as the code finds them: a neighbour that flows in, if it is no outlet
 
-abbrev unlessAmong : List ℕ → Option ℕ → Option ℕ
-unlessAmong outlets none = none
-unlessAmong outlets (some y) = cond (member y outlets) none (some y)
-
-unless-of : (g : Grid) (outlets : List ℕ) (d : Dir) (o : Option ℕ)
-    → unlessOutlet g outlets d o ≡ unlessAmong outlets (ifFlowsIn g d o)
-unless-of g outlets d none = refl
-unless-of g outlets d (some y) = go (flowsIn g d (some y)) refl (member y outlets) refl
-  where
-    go : (b : Bool) → flowsIn g d (some y) ≡ b → (m : Bool) → member y outlets ≡ m
-        → unlessOutlet g outlets d (some y) ≡ unlessAmong outlets (ifFlowsIn g d (some y))
-    go true e true f = rw (e, f)
-    go true e false f = rw (e, f)
-    go false e m f = rw e
-
 module _ {rows cols : ℕ} {codes : List ℕ} {row col k : ℕ} (outlets : List ℕ) {s : Spot}
     (p : FlowsFrom rows cols codes row col k s) where
   abbrev x : ℕ
@@ -158,17 +144,13 @@ module _ {rows cols : ℕ} {codes : List ℕ} {row col k : ℕ} (outlets : List 
   abbrev land : Grid
   land = gridOf rows cols codes
 
-  found-is : inflowIn land outlets x (dirAt k) ≡ unlessAmong outlets (spotCell cols s)
-  unfolding inflowIn inflowFrom
-  found-is = unless-of land outlets (dirAt k) (neighbour land x (dirAt k)) ∙ ap (unlessAmong outlets) (sym (p .is-cell))
-
   pub from-off : s ≡ Off → tributaries land outlets x (dirAt k ∷ []) ≡ []
-  from-off e = from-none land outlets x (dirAt k) (found-is ∙ rw e)
+  from-off e = from-none land outlets x (dirAt k) (turns-is outlets p ∙ rw e)
 
   module _ {r c : ℕ} (e : s ≡ On r c) where
     pub from-outlet : member (r * cols + c) outlets ≡ true → tributaries land outlets x (dirAt k ∷ []) ≡ []
-    from-outlet o = from-none land outlets x (dirAt k) (found-is ∙ rw (e, o))
+    from-outlet o = from-none land outlets x (dirAt k) (turns-is outlets p ∙ rw (e, o))
 
     pub from-on : member (r * cols + c) outlets ≡ false
         → tributaries land outlets x (dirAt k ∷ []) ≡ (r * cols + c) ∷ []
-    from-on o = from-some land outlets x (dirAt k) (r * cols + c) (found-is ∙ rw (e, o))
+    from-on o = from-some land outlets x (dirAt k) (r * cols + c) (turns-is outlets p ∙ rw (e, o))

@@ -1,10 +1,10 @@
 -- The grid made ready for searches by an edition: the notes of one outlet after the other, and what they tell.
 -- Assumes nothing.
 use mathlib.Core.Path.{_≡_, refl, sym, ap, _∙_}
-use mathlib.Core.Bool.{Bool, true, false, cond, not, _&&_, true≢false}
+use mathlib.Core.Bool.{Bool, true, false, cond, not, true≢false}
 use mathlib.Core.List.{List}
 use mathlib.Core.Option.{Option, none, some}
-use Prim.Native.Nat.{ℕ, zero, suc, _+_, _*_, _/_, _%_, _≤_, _<_, _^_}
+use Prim.Native.Nat.{ℕ, zero, suc, _+_, _*_, _≤_, _<_, _^_}
 use native.Mathlib.Omega.{arith}
 use native.Mathlib.Decide.{decLt}
 use lib.ListN.{length, getD}
@@ -25,15 +25,14 @@ use Rattle.ground.specs.Forest.{size, forest}
 use Rattle.ground.proofs.Cells.{null-sub, ground-within}
 use Rattle.ground.proofs.Ground.{sub-size, sub-at-most}
 use Rattle.ground.proofs.Subwatersheds.{true-belongs}
-use Rattle.search.specs.Editions.{meetsBy}
 use Rattle.search.proofs.Faithful.{headwater-is}
 use Rattle.moves.proofs.Spots as spots
 use Rattle.notes.specs.Notes.{cellsHeld, withEnclosed, Noted}
-use Rattle.divide.specs.Divides.{Changes, NotesOutlets, CanNote, enclosedBy, NotesEnclosed, ClearsNotes}
+use Rattle.divide.specs.Divides.{Changes, NotesOutlets, CanNote, enclosedBy}
 use Rattle.divide.proofs.Outside.{inside-ground, inside-within}
 use Rattle.divide.proofs.Noting.{outlets-noted, outlets-small, still-noted, still-none-inside}
-use Rattle.upstream.specs.Ready.{Ready, metIn, MetAt}
-use Rattle.noting.specs.Noting.{Fresh, cellsAtPlace, Places, Readied, Unnoted}
+use Rattle.upstream.specs.Ready.{Ready}
+use Rattle.noting.specs.Noting.{Fresh, cellsAtPlace, Readied, Unnoted}
 
 -- a cell is in the subwatershed of one outlet only
 one-outlet : (g : Grid) (outlets : List ℕ) (o p x : ℕ) → inSubwatershed g outlets o x ≡ true

@@ -24,7 +24,7 @@ use Rattle.answers.specs.Checks.{check10, check11, check12, check14, check15, c
 use Rattle.answers.specs.Entries.{Catchment, accumulateNumber}
 use Rattle.answers.specs.Answers.{tracedWith}
 use Rattle.answers.specs.Tracings.{chosen, chosenTracing, callChecks, stackNumber, leavesStarts}
-use Rattle.answers.proofs.FirstFailed.{all-every, all-at, passesOf, passed, passed-others}
+use Rattle.answers.proofs.FirstFailed.{all-every, all-at, passesOf, passed-others}
 use Rattle.answers.proofs.Accepted.{Promise, stack-reached}
 use Rattle.lines.specs.declared.OutletLine.{OutletLine}
 use Rattle.lines.specs.Line.{catchmentLine, outletLine, pathLine, refusedLine}

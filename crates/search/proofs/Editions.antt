@@ -6,14 +6,12 @@ use mathlib.Core.Bool.{Bool, true, false}
 use mathlib.Core.List.{List, [], _∷_, _++_}
 use mathlib.Core.Option.{some}
 use Prim.Native.Nat.{ℕ, suc, _+_}
-use Rattle.lengths.specs.declared.Length.{Length}
 use Rattle.lengths.specs.Lengths.{Lengths}
 use Rattle.lengths.specs.Rule.{counts}
 use Rattle.lists.specs.Lists.{Every, keepIf, only, member}
 use Rattle.lists.proofs.Lists.{every-map, only-append}
 use Rattle.ground.specs.Compass.{Dir, squares}
 use Rattle.ground.specs.Grid.{Grid, cellCount, ground, next, inflows}
-use Rattle.ground.specs.Walk.{At}
 use Rattle.ground.specs.Accumulation.{agrees, subaccumulation}
 use Rattle.ground.specs.Subwatershed.{firstOutlet, isOutlet, inSubwatershed}
 use Rattle.ground.specs.Forest.{Forest, bare, tree, size, forest, Which, everyCell, cellsAbove, cellsFrom}

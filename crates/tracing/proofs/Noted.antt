@@ -1,8 +1,8 @@
 -- One outlet of the list to be made ready for: what is asked of the list, and what is known after.
 -- Assumes nothing.
-use mathlib.Core.Path.{_≡_, sym, ap}
+use mathlib.Core.Path.{_≡_, ap}
 use mathlib.Core.List.{List}
-use Prim.Native.Nat.{ℕ, _+_, _*_, _≤_, _<_}
+use Prim.Native.Nat.{ℕ, _+_, _≤_, _<_}
 use native.Mathlib.Omega.{arith}
 use lib.ListN.{length, getD}
 use Rattle.lists.specs.Slices.{Kept}
@@ -10,7 +10,6 @@ use Rattle.ground.specs.Grid.{gridOf}
 use Rattle.upstream.specs.Ready.{MetAt}
 use Rattle.noting.specs.Noting.{cellsAtPlace, Places, Readied}
 use Rattle.tracing.specs.Answering.{cellsOf}
-use Rattle.tracing.specs.Preparing.{Chosen}
 
 only-place : (place j : ℕ) → place ≤ j → j < place + 1 → j ≡ place
 only-place place j a b = omega arith

@@ -1,11 +1,11 @@
 -- All outlets of the list to be made ready for: what is asked of the working space, and what it changes there.
 -- Assumes nothing.
-use mathlib.Core.Path.{_≡_, sym, ap, _∙_, subst}
+use mathlib.Core.Path.{sym, _∙_, subst}
 use mathlib.Core.List.{List}
 use Prim.Native.Nat.{ℕ, _*_, _≤_, _<_}
 use native.Mathlib.Omega.{arith}
 use lib.ListN.{length, length-replicate}
-use Rattle.lists.specs.Slices.{overlaid, zeros, Kept}
+use Rattle.lists.specs.Slices.{zeros, Kept}
 use Rattle.lists.proofs.Kept.{kept-wider}
 use Rattle.lists.proofs.Overlaid.{overlaid-kept}
 use Rattle.lists.proofs.Sums.{none-greater}

@@ -17,7 +17,7 @@ use Rattle.search.specs.Neighbours.{unlessOutlet, inflowIn}
 use Rattle.upstream.specs.Turns.{TurnsTo}
 
 -- of a neighbour that flows in, whether it is an outlet
-abbrev unlessAmong : List ℕ → Option ℕ → Option ℕ
+abbrev pub unlessAmong : List ℕ → Option ℕ → Option ℕ
 unlessAmong outlets o = elim o [ none ↦ none | some y ↦ cond (member y outlets) none (some y) ]
 
 unless-of : (g : Grid) (outlets : List ℕ) (d : Dir) (o : Option ℕ)
@@ -36,7 +36,7 @@ module _ {rows cols : ℕ} {codes : List ℕ} {row col k : ℕ} (outlets : List 
   abbrev land : Grid
   land = gridOf rows cols codes
 
-  turns-is : inflowIn land outlets (row * cols + col) (dirAt k) ≡ unlessAmong outlets (spotCell cols s)
+  pub turns-is : inflowIn land outlets (row * cols + col) (dirAt k) ≡ unlessAmong outlets (spotCell cols s)
   unfolding inflowIn inflowFrom
   turns-is = unless-of land outlets (dirAt k) (neighbour land (row * cols + col) (dirAt k))
       ∙ ap (unlessAmong outlets) (sym (p .is-cell))
