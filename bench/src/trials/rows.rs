@@ -42,7 +42,7 @@ const fn within_each(most: f64, row: Row) -> Row {
     Row { each: Some(most), ..row }
 }
 
-pub const ROWS: [Row; 20] = [
+pub const ROWS: [Row; 21] = [
     aimed([1.4, 1.1, 1.4], row("accumulate", "inflow count", "cell")),
     row("accumulate", "look-around", "cell"),
     aimed([1.2, 1.5, 1.5], row("check 14", "equation", "cell")),
@@ -60,6 +60,15 @@ pub const ROWS: [Row; 20] = [
     aimed_on_fractal(1.3, row("stack, no dropping, search", "search", "visited cell")),
     row("stack, dropping, whole", "equation, inflow count, search", "cell"),
     aimed_on_fractal(1.3, row("stack, dropping, search", "search", "visited cell")),
+    within(
+        2.0,
+        "stack, no dropping, whole",
+        row(
+            "stack, edition 2, no dropping, whole",
+            "by edition 1: equation, inflow count, search",
+            "cell",
+        ),
+    ),
     within_each(
         0.02,
         within(

@@ -31,7 +31,8 @@ pub struct Visits {
     pub tight_taken: f64,
 }
 
-/// What a tracing of one outlet gave: four figures, what was visited, and the first start.
+/// What a tracing of one outlet gave: four figures, by stack a fifth of edition 2, what was
+/// visited, and the first start.
 pub struct Traced {
     pub figures: Vec<Figure>,
     pub visits: Visits,
@@ -54,7 +55,7 @@ pub fn tracing(
     let outlets = [outlet];
     let walking = runs.walking(steps);
     let rust_runs = [if steps <= MANY_STEPS { walking } else { 0 }, walking];
-    let library = |dropping: bool, found: &Cell<[u32; 5]>| {
+    let library = |edition: u32, dropping: bool, found: &Cell<[u32; 5]>| {
         let Lent { subaccumulation, starts, work, .. } = &mut *sets.library.borrow_mut();
         let work = work.all();
         let page = work.as_mut_ptr();
@@ -62,7 +63,7 @@ pub fn tracing(
         let taken = match engine {
             Engine::Stack => watching(page, || {
                 accepted(jinxbanyan::trace_by_stack(
-                    EDITION,
+                    edition,
                     rows,
                     cols,
                     codes,
@@ -78,7 +79,7 @@ pub fn tracing(
             }),
             Engine::Recursion => timed(|| {
                 accepted(jinxbanyan::trace_by_recursion(
-                    EDITION,
+                    edition,
                     rows,
                     cols,
                     codes,
@@ -126,11 +127,12 @@ pub fn tracing(
         accepted(answer.number());
         found.set(answer.results());
     };
-    let found: [Cell<[u32; 5]>; 7] = Default::default();
+    let found: [Cell<[u32; 5]>; 8] = Default::default();
     let refused_runs = if engine == Engine::Recursion { runs.quick } else { 0 };
+    let second_runs = if engine == Engine::Stack { runs.quick } else { 0 };
     let times = clock.race(vec![
-        Contestant::timing_itself(runs.quick, || library(false, &found[0])),
-        Contestant::timing_itself(runs.quick, || library(true, &found[1])),
+        Contestant::timing_itself(runs.quick, || library(EDITION, false, &found[0])),
+        Contestant::timing_itself(runs.quick, || library(EDITION, true, &found[1])),
         // No working space: refused with 20, after all checks and with the grid filled.
         Contestant::new(refused_runs, || {
             let Lent { subaccumulation, starts, .. } = &mut *sets.library.borrow_mut();
@@ -155,7 +157,10 @@ pub fn tracing(
         Contestant::new(rust_runs[0], || rust(false, &found[4])),
         Contestant::new(rust_runs[1], || rust(true, &found[5])),
         Contestant::new(runs.quick, || plain(Rule::First, &found[6])),
+        Contestant::timing_itself(second_runs, || library(2, false, &found[7])),
     ]);
+    // What edition 1 lists is compared and drawn.
+    library(EDITION, true, &found[1]);
     let [dropping, first] = [1, 6].map(|who| found[who].get());
     assert_eq!(dropping[..3], first[..3], "the same paths by either rule");
     assert!(dropping[3] <= first[3], "no more cells visited");
@@ -186,6 +191,10 @@ pub fn tracing(
             Engine::Stack => touching(times[dropping], search, visited),
             Engine::Recursion => apart(times[dropping], times[2], search, visited),
         });
+    }
+    if engine == Engine::Stack {
+        assert_eq!(found[0].get()[3], found[7].get()[3], "the same cells visited");
+        figures.push(whole(times[8], plain_fill + time(times[3]), None, cells));
     }
     let visits = Visits {
         cells: found[0].get()[3] as usize,

@@ -167,7 +167,8 @@ module _ (edition : ℕ) (c : Catchment) (old : LentAll) where
         ≤ howMany (ground land) (cellCount land)
     together = omega (
       arith,
-      sum-parts (λ o. tracingOf edition land (c .outlets) o .visited) (λ o. tracingOf edition land (c .outlets) o .dropped) (c .outlets),
+      sum-parts (λ o. tracingOf edition land (c .outlets) o .visited)
+          (λ o. tracingOf edition land (c .outlets) o .dropped) (c .outlets),
       sum-alike (λ o. tracingOf edition land (c .outlets) o .visited + tracingOf edition land (c .outlets) o .dropped)
           (subaccumulation land (c .outlets)) (c .outlets)
           (every-placed (λ o. tracingOf edition land (c .outlets) o .visited + tracingOf edition land (c .outlets) o .dropped

@@ -74,7 +74,8 @@ sumsTold number = member number (0 ∷ 21 ∷ [])
 module _ (edition : ℕ) (g : Grid) (outlets : List ℕ) where
   unfoldable pub tellsAll : ℕ → TracedAll
   tellsAll number =
-      cond (sumsTold number) (tracedAll number (allVisited edition g outlets) (allDropped edition g outlets)) (tracedAll number 0 0)
+      cond (sumsTold number) (tracedAll number (allVisited edition g outlets) (allDropped edition g outlets))
+      (tracedAll number 0 0)
 
   -- what is left. The grid is filled once 17 is past; the working numbers that 20 asks for are 0 after the searches; both
   -- lists are written on 0 alone
@@ -83,7 +84,8 @@ module _ (edition : ℕ) (g : Grid) (outlets : List ℕ) where
       let filled = overlaid (subaccumulations g outlets) (old .subaccumulation) in
       let cleared = overlaid (zeros (numbersEach * mostCells g outlets)) (old .work) in
       cond (eqb number 0)
-      (lentAll filled (overlaid (allStarts edition g outlets) (old .starts)) (overlaid (pathCounts edition g outlets) (old .counts)) cleared)
+      (lentAll filled (overlaid (allStarts edition g outlets) (old .starts))
+      (overlaid (pathCounts edition g outlets) (old .counts)) cleared)
       (cond (eqb number 21) (lentAll filled (old .starts) (old .counts) cleared)
       (cond (member number (20 ∷ 23 ∷ [])) (lentAll filled (old .starts) (old .counts) (old .work))
       old))

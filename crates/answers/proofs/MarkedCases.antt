@@ -28,7 +28,8 @@ use Rattle.answers.specs.Marked.{marks}
 pub marked : map worked marks ≡ marks
 unfolding compared ruled signOf isShorter sumOf dirOf codeAt neighbour next inflowRecord inflows ringFree balance
     agrees subaccumulation belongs inSubwatershed walked forest tracingBy firstFailed isCode check10 check11 check12
-    check13 check14 check15 check16 check17 check18 check19 check20 check21 check22 check23 check25 onDivide overlaid accumulateNumber
+    check13 check14 check15 check16 check17 check18 check19 check20 check21 check22 check23 check25 onDivide overlaid
+    accumulateNumber
     accumulateLeaves checkNumber subaccumulateNumber subaccumulateLeaves tracedWith recursionNumber stackNumber
     leavesSubaccumulation leavesStarts leavesWork drawNumber drawLeaves drawnPart longerOf upstreamLength arrival
     flowLengths flowLengthsNumber lengthsOver flowLengthsLeaves

@@ -130,7 +130,8 @@ module _ {rows cols : ℕ} {codes outlets old : List ℕ} (fresh : Fresh rows co
   -- ---- BY EDITION 2 the enclosed cells are noted, one outlet after the other
 
   module _ (first : ℕ) where
-    pub marked-begin : {words : List ℕ} → NotesOutlets (rows * cols) outlets old words → Marked rows cols codes outlets first first words
+    pub marked-begin : {words : List ℕ} → NotesOutlets (rows * cols) outlets old words
+        → Marked rows cols codes outlets first first words
     marked-begin c = record {
       noted = outlets-noted g outlets small c (fresh .has-room) (fresh .filled);
       none-inside = λ x h. omega (arith, outlets-small g outlets small c x h);
@@ -187,7 +188,8 @@ module _ {rows cols : ℕ} {codes outlets old : List ℕ} (fresh : Fresh rows co
               (r .0, r .1, omega (arith, r .2), r .3)
 
     -- THE NOTES TELL where a length is met
-    module _ {end : ℕ} (in-list : end ≤ length outlets) {words : List ℕ} (m : Marked rows cols codes outlets first end words) where
+    module _ {end : ℕ} (in-list : end ≤ length outlets) {words : List ℕ}
+        (m : Marked rows cols codes outlets first end words) where
       told : (j : ℕ) → first ≤ j → j < end → (x : ℕ) → inSubwatershed g outlets (o j) x ≡ true
           → ltb (getD words x 0) (2 ^ 30) ≡ onDivide g outlets (o j) x
       told j a b x i = go (onDivide g outlets (o j) x) refl

@@ -43,8 +43,10 @@ module _ (edition : ℕ) (g : Grid) (outlets : List ℕ) where
     pub before : Adds edition g outlets (pathsTo edition g outlets) j from
     pub same-starts : length starts ≡ length starts₀
     pub same-counts : length counts ≡ length counts₀
-    pub starts-left : sets starts from (joined (map (startsTo edition g outlets) (drop j outlets))) ≡ sets starts₀ 0 (allStarts edition g outlets)
-    pub counts-left : sets counts j (map (pathsTo edition g outlets) (drop j outlets)) ≡ sets counts₀ 0 (pathCounts edition g outlets)
+    pub starts-left : sets starts from (joined (map (startsTo edition g outlets) (drop j outlets))) ≡ sets starts₀ 0
+        (allStarts edition g outlets)
+    pub counts-left : sets counts j (map (pathsTo edition g outlets) (drop j outlets)) ≡ sets counts₀ 0
+        (pathCounts edition g outlets)
 
   pub listing-none : {starts counts : List ℕ} → Listing starts counts 0 0 starts counts
   listing-none = record {
@@ -74,7 +76,8 @@ module _ (edition : ℕ) (g : Grid) (outlets : List ℕ) where
         same-starts = ap length e ∙ length-sets starts from (startsTo edition g outlets (getD outlets j 0)) ∙ l .same-starts;
         same-counts = length-set counts j count ∙ l .same-counts;
         starts-left = rw (add-one j, e, q, sym (long-starts edition g outlets (getD outlets j 0))) (
-            sets-after (startsTo edition g outlets (getD outlets j 0)) (joined (map (startsTo edition g outlets) (drop (suc j) outlets)))
+            sets-after (startsTo edition g outlets (getD outlets j 0))
+            (joined (map (startsTo edition g outlets) (drop (suc j) outlets)))
             starts from ∙ ap (sets starts from) (sym (joined-left (startsTo edition g outlets) outlets j i)) ∙ l .starts-left
             );
         counts-left = rw (add-one j, q) (
@@ -89,11 +92,15 @@ module _ (edition : ℕ) (g : Grid) (outlets : List ℕ) where
       none-left : drop j outlets ≡ []
       none-left = drop-of-length-le outlets {i = j} h
 
-      pub all-listed : sumOf (pathCounts edition g outlets) ≤ length starts₀ → starts ≡ overlaid (allStarts edition g outlets) starts₀
+      pub all-listed : sumOf (pathCounts edition g outlets) ≤ length starts₀ → starts ≡ overlaid
+          (allStarts edition g outlets) starts₀
       unfolding joined
-      all-listed r = ap (λ (os : List ℕ). sets starts from (joined (map (startsTo edition g outlets) os))) (sym none-left) ∙ l .starts-left
+      all-listed r = ap (λ (os : List ℕ). sets starts from (joined (map (startsTo edition g outlets) os)))
+          (sym none-left) ∙ l .starts-left
           ∙ sets-overlaid starts₀ (allStarts edition g outlets) (omega (arith, r, all-long edition g outlets))
 
       pub all-counted : length outlets ≤ length counts₀ → counts ≡ overlaid (pathCounts edition g outlets) counts₀
-      all-counted r = ap (λ (os : List ℕ). sets counts j (map (pathsTo edition g outlets) os)) (sym none-left) ∙ l .counts-left
-          ∙ sets-overlaid counts₀ (pathCounts edition g outlets) (omega (arith, r, length-map outlets (pathsTo edition g outlets)))
+      all-counted r = ap (λ (os : List ℕ). sets counts j (map (pathsTo edition g outlets) os)) (sym none-left)
+          ∙ l .counts-left
+          ∙ sets-overlaid counts₀ (pathCounts edition g outlets)
+          (omega (arith, r, length-map outlets (pathsTo edition g outlets)))

@@ -128,6 +128,7 @@ module _ (g : Grid) (a : List ℕ) (h : agrees g a ≡ true) (outlets : List ℕ
       ≡ searchFrom squares (tracingRule squares w′ dropping) o (forest g outlets o)
   unfolding Inside
   met-inside w w′ same dropping = from-same squares w w′ dropping o (forest g outlets o) (same o (all-inside .0))
-      (trees-both (λ c up. Inside c) (λ c up. (up ≡ forest g outlets c) × (suc (size up) ≡ subaccumulation g outlets c)) (λ c up. w c up ≡ w′ c up)
+      (trees-both (λ c up. Inside c) (λ c up. (up ≡ forest g outlets c) × (suc (size up) ≡ subaccumulation g outlets c))
+      (λ c up. w c up ≡ w′ c up)
       (λ c up i p. subst (λ f. w c f ≡ w′ c f) (sym (p .0)) (same c i)) (forest g outlets o)
       (trees-of squares Inside (counts 0 0) (forest g outlets o) (all-inside .1)) (tree-sub g a h outlets o v))

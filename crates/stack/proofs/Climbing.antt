@@ -163,4 +163,11 @@ module _ {rows cols : ℕ} {codes outlets subaccumulations : List ℕ}
         → sumOf (map cellsHeld values) ≡ n - 1 → inflowsAbove g [] x len dirs ≡ inflowsAbove g outlets x len dirs
     unfolding inflowRecord
     no-outlet v {n} is-n e = alike dirs .same
-        (omega (arith, ap (λ (ws : List ℕ). sumOf (map cellsHeld ws)) v, e, is-n, cells-above g (ready .lent) (ready .agreed) outlets x (at .solid)))
+        (omega (
+          arith,
+          ap (λ (ws : List ℕ). sumOf (map cellsHeld ws)) v,
+          e,
+          is-n,
+          cells-above g (ready .lent)
+              (ready .agreed) outlets x (at .solid),
+        ))

@@ -31,7 +31,8 @@ use Rattle.stack.proofs.Climbing.{one-cell, small-cells}
 use Rattle.stack.proofs.Entering.{cells-left, drained, stands}
 
 -- turn after turn the rest of the search is the same
-pub drains-on : {g : Grid} {outlets : List ℕ} {met : Which Dir} {dropping : Bool} {end : ℕ} {s : Stack} {old : List ℕ} {r : Stack}
+pub drains-on : {g : Grid} {outlets : List ℕ} {met : Which Dir} {dropping : Bool} {end : ℕ} {s : Stack} {old : List ℕ}
+    {r : Stack}
     {new : List ℕ} {st : State squares} → Turned g outlets met dropping end s old r new
     → drain g outlets met dropping (pending old (s .top)) (stateOf (s .progress) old end) ≡ st
     → drain g outlets met dropping (pending new (r .top)) (stateOf (r .progress) new end) ≡ st

@@ -106,7 +106,8 @@ module _ (edition : ℕ) (c : Catchment) (old : LentAll) (judged : isEdition edi
   module _ (z : n ≡ 0 → ⊥) where
     early : traceAllNumber edition c old ≡ n
     unfolding subaccumulateNumber
-    early = past-25 edition c old judged ∙ sym (handed-on (before c (old .subaccumulation)) (lastChecks edition c old) (s .answers) z)
+    early = past-25 edition c old judged ∙ sym (handed-on (before c (old .subaccumulation)) (lastChecks edition c old)
+        (s .answers) z)
 
     small : n < 18
     unfolding subaccumulateNumber

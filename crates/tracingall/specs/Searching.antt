@@ -20,8 +20,10 @@ module _ (edition : ℕ) (g : Grid) (outlets : List ℕ) where
 
   pub record SearchesAll (starts counts work : List ℕ) (r : TracedAll) (starts′ counts′ space : List ℕ) : Type 0 where
     pub answers : r ≡ tellsAll edition g outlets (numberFor (length starts))
-    pub lists : starts′ ≡ cond (leb (sumOf (pathCounts edition g outlets)) (length starts)) (overlaid (allStarts edition g outlets) starts)
+    pub lists : starts′ ≡ cond (leb (sumOf (pathCounts edition g outlets)) (length starts))
+        (overlaid (allStarts edition g outlets) starts)
         starts
-    pub counted : counts′ ≡ cond (leb (sumOf (pathCounts edition g outlets)) (length starts)) (overlaid (pathCounts edition g outlets) counts)
+    pub counted : counts′ ≡ cond (leb (sumOf (pathCounts edition g outlets)) (length starts))
+        (overlaid (pathCounts edition g outlets) counts)
         counts
     pub clears : space ≡ overlaid (zeros (numbersEach * mostCells g outlets)) work

@@ -28,8 +28,13 @@ search-at-requires : tie.Need-search-at-requires Inv-loop μ-loop
 search-at-requires c κs =
     let t = c .before in
     let l = t .before .loop in
-    let s = t .before .before .before .before .before .before in
-    (s .pre .ready, ((s .pre .list .chosen (l .j) (t .loop-test .taken), s .pre .met (l .j) (t .loop-test .taken)), has-room (s .pre .list) (l .inv .2) (t .loop-test .taken)))
+    let s = t .before .before .before .before .before .before in (
+      s .pre .ready,
+      (
+        (s .pre .list .chosen (l .j) (t .loop-test .taken), s .pre .met (l .j) (t .loop-test .taken)),
+        has-room (s .pre .list) (l .inv .2) (t .loop-test .taken),
+      ),
+    )
 
 -- what is added fits
 fits : (m : tie.After-search-at Inv-loop μ-loop) → let s = m .before .before .before .loop .s in
@@ -61,7 +66,11 @@ add-j c =
     omega (arith, t .loop-test .taken, t .before .before .before .before .before .before .pre .list .few-outlets)
 
 loop-less : tie.Need-loop-less Inv-loop μ-loop
-loop-less c = omega (arith, c .before .before .before .before .before .before .before .before .before .before .loop-test .taken)
+loop-less c = omega (
+  arith,
+  c .before .before .before .before .before .before .before .before .before .before .loop-test
+      .taken,
+)
 
 loop-again : tie.Need-loop-again Inv-loop μ-loop
 loop-again c =
@@ -71,7 +80,8 @@ loop-again c =
     let s = t .before .before .before .before .before .before in
     let a = s .args in (
       omega (arith, t .loop-test .taken),
-      counting-more (a .edition) (gridOf (a .rows) (a .cols) (a .codes .now)) (a .outlets .now) (t .loop-test .taken) (l .inv .1)
+      counting-more (a .edition) (gridOf (a .rows) (a .cols) (a .codes .now)) (a .outlets .now) (t .loop-test .taken)
+          (l .inv .1)
           (m .search-at .ensures),
       kept-search (s .pre .list) (l .inv .2) (t .loop-test .taken) (m .search-at .ensures .only),
     )

@@ -37,7 +37,8 @@ start t = t .before .before .before .before .before .before .before .before
 
 inside : (t : tie.In-loop Inv-loop μ-loop) → let a = start t .args in
     let l = t .before .loop in
-    l .total + pathsTo (a .edition) (gridOf (a .rows) (a .cols) (a .codes .now)) (a .outlets .now) (getD (a .outlets .now) (l .j) 0)
+    l .total + pathsTo (a .edition) (gridOf (a .rows) (a .cols) (a .codes .now)) (a .outlets .now)
+    (getD (a .outlets .now) (l .j) 0)
     ≤ length (l .starts)
 inside t =
     let s = start t in
@@ -70,7 +71,11 @@ list-at-requires c κs =
     let l = t .before .loop in
     let s = start t in (
       s .pre .0 .ready,
-      ((s .pre .0 .list .chosen (l .j) (t .loop-test .taken), s .pre .0 .met (l .j) (t .loop-test .taken)), has-room (s .pre .0 .list) (l .inv .2) (t .loop-test .taken)),
+      (
+        (s .pre .0 .list .chosen (l .j) (t .loop-test .taken), s .pre .0 .met (l .j) (t .loop-test .taken)),
+        has-room
+            (s .pre .0 .list) (l .inv .2) (t .loop-test .taken),
+      ),
     )
 
 mul-counts : tie.Need-mul-counts Inv-loop μ-loop
@@ -93,7 +98,8 @@ add-total c =
     let a = s .args in
     omega (
       arith,
-      fits-all (a .edition) (gridOf (a .rows) (a .cols) (a .codes .now)) (a .outlets .now) (t .loop-test .taken) (s .pre .1 .0)
+      fits-all (a .edition) (gridOf (a .rows) (a .cols) (a .codes .now)) (a .outlets .now) (t .loop-test .taken)
+          (s .pre .1 .0)
           (t .before .loop .inv .1),
       m .list-at .ensures .counted .count,
       s .pre .1 .1,

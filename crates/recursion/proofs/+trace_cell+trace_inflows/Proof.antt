@@ -129,7 +129,8 @@ module _ (t : ℕ) where
       let e = c .before in
       let n = e .before .before in
       let s = n .before .before .before .before in
-      let small = small-len (s .pre .1 .0) (met-in s) (s .args .dropping) (s .pre .1 .1) (n .next-turn .ensures) (e .if1 .left) in
+      let small = small-len (s .pre .1 .0) (met-in s) (s .args .dropping) (s .pre .1 .1) (n .next-turn .ensures)
+      (e .if1 .left) in
       (omega (arith, small), omega (arith, small))
 
   is-dropped-requires : trace-inflows-lts.Need-is-dropped-requires in-inflows trace-inflows-at trace-inflows.Post
@@ -178,10 +179,12 @@ module _ (t : ℕ) where
       let s = n .before .before .before .before in
       let a = s .args in
       let i = c .trace-inflows in
-      drop-traced (s .pre .1 .0) (met-in s) (a .dropping) (s .pre .1 .1) (n .next-turn .ensures) (e .if1 .left) (p .plus .ensures)
+      drop-traced (s .pre .1 .0) (met-in s) (a .dropping) (s .pre .1 .1) (n .next-turn .ensures) (e .if1 .left)
+      (p .plus .ensures)
       (d .before .before .is-dropped .ensures) (d .before .if2 .taken) (i .result)
       (i .last .1 .1 .1 .1 .1 .1 .1 .1 .1 .1 .1 .1 .0)
-      (subst (λ q. InflowsTraced (a .rows) (a .cols) (a .codes .now) (a .outlets .now) (met-in s) (a .dropping) (a .row) (a .col)
+      (subst (λ q. InflowsTraced (a .rows) (a .cols) (a .codes .now) (a .outlets .now) (met-in s) (a .dropping) (a .row)
+      (a .col)
       (a .len) (n .next-turn .result .k + 1) q (a .found .now) (i .result)
       (i .last .1 .1 .1 .1 .1 .1 .1 .1 .1 .1 .1 .1 .0))
       (d .drop-cells .ensures) (i .ensures))
@@ -237,7 +240,8 @@ module _ (t : ℕ) where
       let n = e .before .before in
       let s = n .before .before .before .before in
       let a = s .args in
-      rest-traced (s .pre .1 .0) (met-in s) (a .dropping) (s .pre .1 .1) (n .next-turn .ensures) (e .if1 .left) (p .plus .ensures)
+      rest-traced (s .pre .1 .0) (met-in s) (a .dropping) (s .pre .1 .1) (n .next-turn .ensures) (e .if1 .left)
+      (p .plus .ensures)
       (d .before .is-dropped .ensures) (d .if2 .left) (q .ensures) (i .result)
       (i .last .1 .1 .1 .1 .1 .1 .1 .1 .1 .1 .1 .1 .0) (i .ensures)
 

@@ -71,7 +71,8 @@ loop-again c =
 returns : tie.Need-returns Inv-loop μ-loop
 returns c =
     c .before .loop .inv .3
-    ∙ ap sumOf (take-all (c .before .loop .i) (map cellsHeld (c .before .before .before .args .inflows .values)) (omega arith))
+    ∙ ap sumOf (take-all (c .before .loop .i) (map cellsHeld (c .before .before .before .args .inflows .values))
+    (omega arith))
 
 pub cells-above-spec : {M : Type 1} → statement M
 cells-above-spec =

@@ -49,7 +49,8 @@ returns c =
     entered (s .pre .0) (s .pre .1 .0) (s .pre .1 .1) (a .edition)
     (rw (t .before .is-met .ensures) at (v .visit .ensures))
     (subst (λ ws. PutOn ws (a .top) (v .visit .last .0) (a .top) (v .visit .last .0))
-    (sym (none-above (s .pre .0) (s .pre .1 .0) (a .len) (sym (t .before .before .cells-held .ensures ∙ read (s .pre .0) (s .pre .1 .0)) ∙ t .if1 .taken)))
+    (sym (none-above (s .pre .0) (s .pre .1 .0) (a .len)
+    (sym (t .before .before .cells-held .ensures ∙ read (s .pre .0) (s .pre .1 .0)) ∙ t .if1 .taken)))
     (put-none (v .visit .last .0) (a .top)))
 
 cast-visit-2 : tie.Need-cast-visit-2

@@ -20,8 +20,10 @@ abbrev Inv-loop : tie.InvT-loop
 Inv-loop rows cols codes outlets subaccumulation edition dropping row col work₀ end s₀ work s =
     (length work ≡ length work₀)
     × Standing (gridOf rows cols codes) outlets end s work
-    × (drain (gridOf rows cols codes) outlets (metIn edition subaccumulation) dropping (pending work (s .top)) (stateOf (s .progress) work end)
-    ≡ drain (gridOf rows cols codes) outlets (metIn edition subaccumulation) dropping (pending work₀ (s₀ .top)) (stateOf (s₀ .progress) work₀ end))
+    × (drain (gridOf rows cols codes) outlets (metIn edition subaccumulation) dropping (pending work (s .top))
+    (stateOf (s .progress) work end)
+    ≡ drain (gridOf rows cols codes) outlets (metIn edition subaccumulation) dropping (pending work₀ (s₀ .top))
+    (stateOf (s₀ .progress) work₀ end))
     × ((i : ℕ) → end ≤ i → getD work i 0 ≡ getD work₀ i 0)
 
 abbrev μ-loop : tie.MeasureT-loop

@@ -82,7 +82,8 @@ returns c =
     let d = n .before .before .before in
     let s = start d in
     turn-dropped (s .pre .0) (s .pre .1 .0) (s .pre .1 .1) (d .pending-at .ensures)
-    (metIn (s .args .edition) (s .args .subaccumulation .now)) (s .args .dropping) (cells-there n) (c .before .before .is-dropped .ensures) (c .before .if1 .taken)
+    (metIn (s .args .edition) (s .args .subaccumulation .now)) (s .args .dropping) (cells-there n)
+    (c .before .before .is-dropped .ensures) (c .before .if1 .taken)
     (c .drop-cells .ensures)
 
 enter-cell-requires : tie.Need-enter-cell-requires
@@ -102,7 +103,8 @@ returns-2 c =
     let d = n .before .before .before in
     let s = start d in
     turn-entered (s .pre .0) (s .pre .1 .0) (s .pre .1 .1) (d .pending-at .ensures)
-    (metIn (s .args .edition) (s .args .subaccumulation .now)) (s .args .dropping) (cells-there n) (i .before .is-dropped .ensures) (i .if1 .left) (e .ensures)
+    (metIn (s .args .edition) (s .args .subaccumulation .now)) (s .args .dropping) (cells-there n)
+    (i .before .is-dropped .ensures) (i .if1 .left) (e .ensures)
     (e .kept .1 .1 .1 .1 .1 .1 .1 .1 .1 .1 .1 .1 .0)
 
 pub turn-spec : {M : Type 1} → statement M

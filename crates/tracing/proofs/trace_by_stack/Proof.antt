@@ -41,7 +41,8 @@ refused-requires c κs = search needs
 returns : tie.Need-returns
 returns c =
     let e = c .before .before in
-    stack-25 (call e) (given e) (start e .args .work .now) (sym (e .is-edition .ensures) ∙ not-true _ (c .before .if1 .taken)) (c .refused .ensures)
+    stack-25 (call e) (given e) (start e .args .work .now)
+    (sym (e .is-edition .ensures) ∙ not-true _ (c .before .if1 .taken)) (c .refused .ensures)
 
 prepare-requires : tie.Need-prepare-requires
 prepare-requires c κs = search needs
@@ -55,7 +56,8 @@ same-length c = search needs
 returns-2 : tie.Need-returns-2
 returns-2 c =
     let p = c .before .before .before .before in
-    stack-first (call (first p)) (given (first p)) (start (first p) .args .work .now) (judged p) (p .prepare .ensures) (c .before .if2 .taken)
+    stack-first (call (first p)) (given (first p)) (start (first p) .args .work .now) (judged p) (p .prepare .ensures)
+    (c .before .if2 .taken)
     (c .refused2 .ensures)
 
 index-of-requires : tie.Need-index-of-requires

@@ -55,7 +55,12 @@ list-all-requires c κs =
         list = kept-traceable (s .pre .0 .list) (t .count-all .ensures .kept);
       },
       (
-        omega (arith, e .if1 .left, total g (a .outlets .now) (a .edition) (t .count-all .ensures .counts) (i .index-of .ensures .0)),
+        omega (
+          arith,
+          e .if1 .left,
+          total g (a .outlets .now) (a .edition) (t .count-all .ensures .counts)
+              (i .index-of .ensures .0),
+        ),
         t .count-all .ensures .few-paths,
         s .pre .1 .1,
       ),
