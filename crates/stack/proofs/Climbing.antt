@@ -90,6 +90,10 @@ module _ {rows cols : ℕ} {codes outlets subaccumulations : List ℕ}
           cells-but-one,
         )
 
+    -- where there is room for all its cells, there is room for them
+    pub room-above : (n top m : ℕ) → n ≡ sub x → 3 * (top + n) ≤ m → 3 * (top + length above) ≤ m
+    room-above n top m e h = omega (arith, few-above, e, h)
+
     -- a headwater has none
     pub none-above : sub x ≡ 1 → above ≡ []
     none-above e = empty above (omega (arith, few-above))

@@ -12,9 +12,11 @@ use progress::begin;
 use progress::drop_cells;
 use progress::is_dropped;
 use progress::visit;
+use upstream::is_inner;
 use upstream::step_at;
-use upstream::tributary_from;
+use upstream::tributary;
 ghost use mathlib.Core.Path.{_≡_};
+ghost use mathlib.Core.Bool.{true};
 ghost use mathlib.Core.List.{[], _∷_, map};
 ghost use Prim.Native.Nat.{_+_, _*_, _≤_, _<_};
 ghost use lib.ListN.{length};
@@ -24,6 +26,7 @@ ghost use Rattle.moves.specs.Lent.{OnCell};
 ghost use Rattle.notes.specs.Notes.{cellsHeld};
 ghost use Rattle.upstream.specs.Ready.{Ready, OnGround, cellsAt, metIn};
 ghost use Rattle.stack.specs.Pending.{Short, pendingAt, pendingWith, allAbove, PutOn};
+ghost use Rattle.stack.specs.Near.{gapOf, anyNear, NoneFlowsIn};
 ghost use Rattle.stack.specs.Draining.{Fits, CellEntered, StackStands, StackTurned, StackTraced};
 
 // How many numbers of the working space a pending cell takes, and how many are asked for each cell.
@@ -91,11 +94,13 @@ fn put_inflows(
     ensures { λ r. ⌜ PutOn (allAbove rows cols (now (codes .entry)) (now (outlets .entry)) row col len) top
         (now (work .entry)) r (now (work .exit)) ⌝ }
 {
+    let inner = is_inner(rows, cols, row, col);
     let mut at = top;
     let mut left: usize = 8;
     while 0 < left {
         left -= 1;
-        if let Spot::On { row: r, col: c } = tributary_from(
+        if let Spot::On { row: r, col: c } = tributary(
+            inner,
             rows,
             cols,
             codes,
@@ -125,8 +130,56 @@ fn cells_above(inflows: Inflows) -> u64
     total
 }
 
-// The inflows of a cell of n cells are put on. A short list of outlets is looked through; of a long one, nothing is
-// looked for where the subaccumulations of all that flows in add up to those cells: no outlet flows in.
+// How far apart two numbers are.
+fn gap(a: usize, b: usize) -> usize
+    ensures { λ r. ⌜ r ≡ gapOf a b ⌝ }
+{
+    if a < b {
+        return b - a;
+    }
+    a - b
+}
+
+// Does an outlet lie within this reach of a cell's number?
+fn lies_near(outlets: &[u32], at: usize, reach: usize) -> bool
+    ensures { λ r. ⌜ r ≡ anyNear at reach (now (outlets .entry)) ⌝ }
+{
+    let mut k: usize = 0;
+    while k < outlets.len() {
+        if gap(index_of(outlets[k]), at) <= reach {
+            return true;
+        }
+        k += 1;
+    }
+    false
+}
+
+// Is it known of a cell of n cells that no outlet flows in? Of a short list of outlets, if none is as near as a
+// neighbour by its number; of a long one, if the subaccumulations of all that flows in add up to those cells.
+fn none_flows_in(
+    rows: usize,
+    cols: usize,
+    codes: &[u8],
+    outlets: &[u32],
+    subaccumulation: &[u32],
+    row: usize,
+    col: usize,
+    n: u32,
+) -> bool
+    requires { ⌜ Ready rows cols (now codes) (now outlets) (now subaccumulation) ⌝ }
+    requires { ⌜ OnGround rows cols (now codes) row col ⌝ }
+    requires { ⌜ n ≡ cellsAt rows cols (now codes) (now outlets) row col ⌝ }
+    ensures { λ r. ⌜ (r ≡ true → NoneFlowsIn rows cols (now (codes .entry)) (now (outlets .entry)) row col) ⌝ }
+{
+    if outlets.len() < 16 {
+        let near = lies_near(outlets, row * cols + col, cols + 1);
+        return !near;
+    }
+    let inflows = inflows_of(rows, cols, codes, subaccumulation, row, col);
+    cells_above(inflows) == wide(n - 1)
+}
+
+// The inflows of a cell of n cells are put on. Outlets are not looked for where none is known to flow in.
 fn climb(
     rows: usize,
     cols: usize,
@@ -147,12 +200,8 @@ fn climb(
     ensures { λ r. ⌜ PutOn (allAbove rows cols (now (codes .entry)) (now (outlets .entry)) row col len) top
         (now (work .entry)) r (now (work .exit)) ⌝ }
 {
-    if outlets.len() < 16 {
-        return put_inflows(rows, cols, codes, outlets, row, col, len, top, work);
-    }
     let none = &outlets[..0];
-    let inflows = inflows_of(rows, cols, codes, subaccumulation, row, col);
-    if cells_above(inflows) == wide(n - 1) {
+    if none_flows_in(rows, cols, codes, outlets, subaccumulation, row, col, n) {
         return put_inflows(rows, cols, codes, none, row, col, len, top, work);
     }
     put_inflows(rows, cols, codes, outlets, row, col, len, top, work)

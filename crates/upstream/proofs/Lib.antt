@@ -1,2 +1,3 @@
 pub mod Turning
+pub mod Inner
 pub mod Entering

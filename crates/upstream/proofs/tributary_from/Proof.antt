@@ -1,69 +1,16 @@
--- `upstream::tributary_from` meets its contract: a law for each of the ways to look.
+-- `upstream::tributary_from` meets its contract: of a cell that is not said to be an inner one nothing more is asked.
 -- Assumes nothing.
-use mathlib.Core.Path.{sym, _∙_}
-use Prim.Native.Nat.{_+_, _*_, _<_}
-use native.Mathlib.Omega.{arith}
-use lib.Arith.{digits-lt}
+use mathlib.Core.Path.{sym}
+use mathlib.Core.Bool.{true≢false}
 use borrow.Author.Needs.{needs}
-use Rattle.moves.proofs.Spots.{size}
-use Rattle.upstream.proofs.Turning.{turns-off, turns-outlet, turns-in}
 use Rattle.upstream.proofs.tributary_from.Statement.{statement}
 use Rattle.upstream.proofs.tributary_from.Tie as tie
 
-inflow-from-requires : tie.Need-inflow-from-requires
-inflow-from-requires c κs = search needs
-
-enum-told : tie.Need-enum-told
-enum-told c = search needs
-
-enum-known-r : tie.Need-enum-known-r
-enum-known-r c = search needs
-
--- the function's start, seen from where the neighbour is known, and that the neighbour is a cell
-abbrev start : tie.After-known-told → tie.Start
-start c = c .before .before .before .before .before .before
-
-reached : (c : tie.After-known-told)
-    → c .before .r .given .0 .0 * start c .args .cols + c .before .r .given .0 .1 .0
-    < start c .args .rows * start c .args .cols
-reached c =
-    let p = c .before .before .before .inflow-from .ensures in
-    digits-lt (p .row-in _ _ (c .before .r .given .1)) (p .col-in _ _ (c .before .r .given .1))
-
-mul-at : tie.Need-mul-at
-mul-at c = omega (arith, reached c, size (start c .pre .grid .sides))
-
-add-at : tie.Need-add-at
-add-at c = omega (arith, reached c, size (start c .pre .grid .sides))
-
-is-among-requires : tie.Need-is-among-requires
-is-among-requires c κs = search needs
+tributary-requires : tie.Need-tributary-requires
+tributary-requires c κs = (c .before .before .pre, λ e. absurd (true≢false (sym e)))
 
 returns : tie.Need-returns
-returns c =
-    let p = c .before .before in
-    turns-outlet _ (p .before .before .before .inflow-from .ensures) (p .before .r .given .1)
-    (sym (c .before .is-among .ensures) ∙ c .if1 .taken)
-
-returns-2 : tie.Need-returns-2
-returns-2 c = turns-off _ (c .before .before .inflow-from .ensures) (c .enum-told .given .1)
-
-returns-3 : tie.Need-returns-3
-returns-3 c =
-    let p = c .before .before in
-    turns-in _ (p .before .before .before .inflow-from .ensures) (p .before .r .given .1)
-    (sym (c .before .is-among .ensures) ∙ c .if1 .left)
+returns c = search needs
 
 pub tributary-from-spec : {M : Type 1} → statement M
-tributary-from-spec =
-    tie.close
-    (tie.spec
-    inflow-from-requires
-    enum-told
-    enum-known-r
-    mul-at
-    add-at
-    is-among-requires
-    returns
-    returns-2
-    returns-3)
+tributary-from-spec = tie.close (tie.spec tributary-requires returns)
