@@ -9,8 +9,9 @@ use progress::begin;
 use progress::drop_cells;
 use progress::is_dropped;
 use progress::visit;
+use upstream::is_inner;
 use upstream::step_at;
-use upstream::tributary_from;
+use upstream::tributary;
 ghost use mathlib.Core.Path.{_≡_};
 ghost use Prim.Native.Nat.{_+_, _*_, _≤_, _<_, _^_};
 ghost use lib.ListN.{length};
@@ -57,11 +58,13 @@ fn next_turn(
     ensures { λ r. ⌜ NextTurn rows cols (now (codes .entry)) (now (outlets .entry)) (now (subaccumulation .entry))
         row col k r ⌝ }
 {
+    let inner = is_inner(rows, cols, row, col);
     let mut n = k;
     while n < 8 {
         let at = n;
         n += 1;
-        if let Spot::On { row: r, col: c } = tributary_from(
+        if let Spot::On { row: r, col: c } = tributary(
+            inner,
             rows,
             cols,
             codes,

@@ -92,22 +92,6 @@ pub fn tributary(
     }
 }
 
-// Neighbour k of any cell, if it flows in and is no outlet.
-pub fn tributary_from(
-    rows: usize,
-    cols: usize,
-    codes: &[u8],
-    outlets: &[u32],
-    row: usize,
-    col: usize,
-    k: usize,
-) -> Spot
-    requires { ⌜ OnCell rows cols (now codes) row col ⌝ }
-    ensures { λ r. ⌜ TurnsTo rows cols (now (codes .entry)) (now (outlets .entry)) row col k r ⌝ }
-{
-    tributary(false, rows, cols, codes, outlets, row, col, k)
-}
-
 // The step of neighbour k down to the cell: straight and diagonal by turns, from the east on.
 pub fn step_at(k: usize) -> Step
     ensures { λ r. ⌜ r ≡ stepOf (opposite (dirAt k)) ⌝ }

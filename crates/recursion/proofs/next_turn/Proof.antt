@@ -16,30 +16,35 @@ use Rattle.recursion.proofs.next_turn.Statement.{statement}
 use Rattle.recursion.proofs.next_turn.Tie as tie
 
 abbrev Inv-loop : tie.InvT-loop
-Inv-loop rows cols codes outlets subaccumulation row col k n₀ n =
+Inv-loop rows cols codes outlets subaccumulation row col k inner n₀ n =
     (k ≤ n)
     × (n ≤ 8)
     × ((i : ℕ) → k ≤ i → i < n → inflowIn (gridOf rows cols codes) outlets (row * cols + col) (dirAt i) ≡ none)
 
 abbrev μ-loop : tie.MeasureT-loop
-μ-loop rows cols codes outlets subaccumulation row col k n₀ n = 8 - n
+μ-loop rows cols codes outlets subaccumulation row col k inner n₀ n = 8 - n
 
 loop-holds : tie.Need-loop-holds Inv-loop μ-loop
-loop-holds c = (omega arith, c .before .before .before .pre .within, λ i h l. absurd (omega arith))
+loop-holds c = (omega arith, c .before .before .before .before .pre .within, λ i h l. absurd (omega arith))
+
+is-inner-requires : tie.Need-is-inner-requires Inv-loop μ-loop
+is-inner-requires c κs = search needs
 
 add-n : tie.Need-add-n Inv-loop μ-loop
 add-n c = search needs
 
-tributary-from-requires : tie.Need-tributary-from-requires Inv-loop μ-loop
-tributary-from-requires c κs = c .before .before .before .before .before .pre .on
+tributary-requires : tie.Need-tributary-requires Inv-loop μ-loop
+tributary-requires c κs =
+    let i = c .before .before in
+    (i .before .before .before .before .pre .on, i .is-inner .ensures .0)
 
 enum-known-r : tie.Need-enum-known-r Inv-loop μ-loop
 enum-known-r c = search needs
 
 turn-at-requires : tie.Need-turn-at-requires Inv-loop μ-loop
 turn-at-requires c κs =
-    let s = c .before .before .before .before .before .before .before .before .before in
-    let f = c .before .before .before .tributary-from .ensures in
+    let s = c .before .before .before .before .before .before .before .before .before .before in
+    let f = c .before .before .before .tributary .ensures in
     let g = c .before .r .given in
     let h = digits-lt (f .row-in (g .0 .0) (g .0 .1 .0) (g .1)) (f .col-in (g .0 .0) (g .0 .1 .0) (g .1)) in
     let p = s .pre in
@@ -48,7 +53,7 @@ turn-at-requires c κs =
 returns : tie.Need-returns Inv-loop μ-loop
 returns c =
     let l = c .before .before .before .before .before .before .loop in
-    next-found (l .inv .0) (l .inv .1) (l .inv .2) (c .before .before .before .before .tributary-from .ensures)
+    next-found (l .inv .0) (l .inv .1) (l .inv .2) (c .before .before .before .before .tributary .ensures)
     (c .before .before .r .given .1) (c .turn-at .ensures)
 
 enum-told : tie.Need-enum-told Inv-loop μ-loop
@@ -60,8 +65,8 @@ loop-less c = search needs
 loop-again : tie.Need-loop-again Inv-loop μ-loop
 loop-again c =
     let l = c .before .before .before .before .loop in
-    let a = c .before .before .before .before .before .before .before .before .args in
-    let f = c .before .before .tributary-from .ensures in (
+    let a = c .before .before .before .before .before .before .before .before .before .args in
+    let f = c .before .before .tributary .ensures in (
       omega arith,
       omega arith,
       one-further (λ i. inflowIn (gridOf (a .rows) (a .cols) (a .codes .now)) (a .outlets .now)
@@ -89,9 +94,10 @@ next-turn-spec =
     (tie.spec
     Inv-loop
     μ-loop
+    is-inner-requires
     loop-holds
     add-n
-    tributary-from-requires
+    tributary-requires
     enum-known-r
     turn-at-requires
     returns
