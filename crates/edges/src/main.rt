@@ -1,5 +1,5 @@
-// The edge of recursion: 4,096 cells and 4,097, by recursion and from pending cells, by either edition, without and with
-// dropping. Then drawing: the part that is handed back, and what every lent place holds afterwards.
+// The edge of recursion: 4,096 cells and 4,097, by recursion and from pending cells, by either edition, without and
+// with dropping. Then drawing: the part that is handed back, and what every lent place holds afterwards.
 use accumulation::accumulate;
 use answers::Answer;
 use answers::Traced;

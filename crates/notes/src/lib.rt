@@ -27,8 +27,8 @@ pub fn cells_held(word: u32) -> u32
     word % OUTLET
 }
 
-// Is a length met at a cell with this word? By edition 1, without notes, at a headwater, by edition 2 where the cell is not
-// enclosed.
+// Is a length met at a cell with this word? By edition 1, without notes, at a headwater, by edition 2 where the cell is
+// not enclosed.
 pub fn is_met(edition: u32, word: u32) -> bool
     ensures { λ r. ⌜ r ≡ metBy edition word ⌝ }
 {

@@ -28,8 +28,8 @@ pub fn count_all(
     work: &mut [u32],
 ) -> Sums
     requires { ⌜ Searchable edition rows cols (now codes) (now outlets) (now subaccumulation) (now work) ⌝ }
-    ensures { λ r. ⌜ CountsAll edition (gridOf rows cols (now (codes .entry))) (now (outlets .entry)) (now (work .entry))
-        r (now (work .exit)) ⌝ }
+    ensures { λ r. ⌜ CountsAll edition (gridOf rows cols (now (codes .entry))) (now (outlets .entry))
+        (now (work .entry)) r (now (work .exit)) ⌝ }
 {
     let mut s = Sums {
         paths: 0,
@@ -75,8 +75,9 @@ pub fn list_all(
     requires { ⌜ (sumOf (pathCounts edition (gridOf rows cols (now codes)) (now outlets)) ≤ length (now starts))
         × (sumOf (pathCounts edition (gridOf rows cols (now codes)) (now outlets)) ≤ 2 ^ 24)
         × (length (now outlets) ≤ length (now counts)) ⌝ }
-    ensures { λ _. ⌜ ListsAll edition (gridOf rows cols (now (codes .entry))) (now (outlets .entry)) (now (starts .entry))
-        (now (counts .entry)) (now (work .entry)) (now (starts .exit)) (now (counts .exit)) (now (work .exit)) ⌝ }
+    ensures { λ _. ⌜ ListsAll edition (gridOf rows cols (now (codes .entry))) (now (outlets .entry))
+        (now (starts .entry)) (now (counts .entry)) (now (work .entry)) (now (starts .exit)) (now (counts .exit))
+        (now (work .exit)) ⌝ }
 {
     let mut total: u32 = 0;
     let mut j: usize = 0;

@@ -227,7 +227,8 @@ fn enter_cell(
     requires { ⌜ OnGround rows cols (now codes) row col ⌝ }
     requires { ⌜ Fits (cellsAt rows cols (now codes) (now outlets) row col) len end p top (now work) ⌝ }
     ensures { λ r. ⌜ CellEntered rows cols (now (codes .entry)) (now (outlets .entry))
-        (metIn edition (now (subaccumulation .entry))) row col len end p top (now (work .entry)) r (now (work .exit)) ⌝ }
+        (metIn edition (now (subaccumulation .entry))) row col len end p top (now (work .entry)) r
+        (now (work .exit)) ⌝ }
 {
     let at = row * cols + col;
     let word = subaccumulation[at];
@@ -280,7 +281,8 @@ fn enter_outlet(
     requires { ⌜ OnGround rows cols (now codes) row col ⌝ }
     requires { ⌜ Fits (cellsAt rows cols (now codes) (now outlets) row col) len end p top (now work) ⌝ }
     ensures { λ r. ⌜ CellEntered rows cols (now (codes .entry)) (now (outlets .entry))
-        (metIn edition (now (subaccumulation .entry))) row col len end p top (now (work .entry)) r (now (work .exit)) ⌝ }
+        (metIn edition (now (subaccumulation .entry))) row col len end p top (now (work .entry)) r
+        (now (work .exit)) ⌝ }
 {
     let at = row * cols + col;
     let met = is_met(edition, subaccumulation[at]);

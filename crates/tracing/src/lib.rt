@@ -91,7 +91,8 @@ pub fn search_at(
 ) -> Progress
     requires { ⌜ Ready rows cols (now codes) (now outlets) (now subaccumulation) ⌝ }
     requires { ⌜ Chosen rows cols (now codes) (now outlets) place
-        × MetAt edition (gridOf rows cols (now codes)) (now outlets) (getD (now outlets) place 0) (now subaccumulation) ⌝ }
+        × MetAt edition (gridOf rows cols (now codes)) (now outlets) (getD (now outlets) place 0)
+        (now subaccumulation) ⌝ }
     requires { ⌜ numbersEach * cellsOf rows cols (now codes) (now outlets) place ≤ length (now work) ⌝ }
     ensures { λ r. ⌜ Told (tracingAt rows cols (now (codes .entry)) (now (outlets .entry)) place edition
         dropping)
@@ -128,7 +129,8 @@ pub fn list_at(
 ) -> Progress
     requires { ⌜ Ready rows cols (now codes) (now outlets) (now subaccumulation) ⌝ }
     requires { ⌜ Chosen rows cols (now codes) (now outlets) place
-        × MetAt edition (gridOf rows cols (now codes)) (now outlets) (getD (now outlets) place 0) (now subaccumulation) ⌝ }
+        × MetAt edition (gridOf rows cols (now codes)) (now outlets) (getD (now outlets) place 0)
+        (now subaccumulation) ⌝ }
     requires { ⌜ numbersEach * cellsOf rows cols (now codes) (now outlets) place ≤ length (now work) ⌝ }
     ensures { λ r. ⌜ ToldAndLists (tracingAt rows cols (now (codes .entry)) (now (outlets .entry)) place edition
         dropping)
