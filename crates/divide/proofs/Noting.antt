@@ -17,7 +17,7 @@ use Rattle.ground.specs.Divide.{onDivide}
 use Rattle.notes.specs.Notes.{cellsHeld, withOutlet, withEnclosed, withInside, withoutInside, Noted}
 use Rattle.notes.proofs.Notes.{cells-enclosed, outlet-enclosed}
 use Rattle.gathering.specs.Gathering.{Enters}
-use Rattle.divide.specs.Divides.{Changes, NotesOutlets, ClearsNotes, besideOutside, enclosedBy}
+use Rattle.divide.specs.Divides.{Changes, NotesOutlets, besideOutside, enclosedBy}
 use Rattle.divide.proofs.Outside.{inside-within, outside-divide}
 
 -- ---- entered, noted, left
@@ -150,9 +150,3 @@ module _ (g : Grid) (outlets : List ℕ) {n : ℕ} {old new : List ℕ}
       below : (b : Bool) (w : ℕ) → w ≤ 2 ^ 24 → cond b (withOutlet w) w < 2 ^ 30
       below true w k = omega arith
       below false w k = omega arith
-
--- ---- at last all notes taken away
-
-pub cleared-holds : {g : Grid} {outlets old new : List ℕ} → Noted g outlets old → ClearsNotes (cellCount g) old new
-    → (x : ℕ) → x < cellCount g → getD new x 0 ≡ subaccumulation g outlets x
-cleared-holds p c x h = c .words x h ∙ p .cells x h

@@ -6,17 +6,11 @@ use native.Mathlib.Omega.{arith}
 use Rattle.notes.specs.Notes.{cellsHeld, withOutlet, withEnclosed, withInside, withoutInside}
 
 -- the subaccumulation stays
-pub cells-outlet : (w : ℕ) → cellsHeld (withOutlet w) ≡ cellsHeld w
-cells-outlet w = omega arith
-
 pub cells-enclosed : (w : ℕ) → cellsHeld (withEnclosed w) ≡ cellsHeld w
 cells-enclosed w = omega arith
 
 pub cells-inside : (w : ℕ) → cellsHeld (withInside w) ≡ cellsHeld w
 cells-inside w = omega arith
-
-pub cells-left : (w : ℕ) → cellsHeld (withoutInside w) ≡ cellsHeld w
-cells-left w = omega arith
 
 -- and so does the note of an outlet
 pub outlet-enclosed : (w : ℕ) → withEnclosed w / 2 ^ 29 % 2 ≡ w / 2 ^ 29 % 2
@@ -24,9 +18,6 @@ outlet-enclosed w = omega arith
 
 pub outlet-inside : (w : ℕ) → withInside w / 2 ^ 29 % 2 ≡ w / 2 ^ 29 % 2
 outlet-inside w = omega arith
-
-pub outlet-left : (w : ℕ) → withoutInside w / 2 ^ 29 % 2 ≡ w / 2 ^ 29 % 2
-outlet-left w = omega arith
 
 -- a note made twice is made once
 pub outlet-again : (w : ℕ) → withOutlet (withOutlet w) ≡ withOutlet w
