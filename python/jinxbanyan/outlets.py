@@ -64,8 +64,9 @@ def _system(named: str | None, of_file: str | None) -> Any:
 
 
 def _in_system(number: int, point: Point, old: Any, new: Any) -> Point:
+    transform = needed("rasterio.warp").transform
     try:
-        (x,), (y,) = needed("rasterio.warp").transform(old, new, [point.x], [point.y])
+        (x,), (y,) = transform(old, new, [point.x], [point.y])
     except Exception:  # rasterio has no public class for what PROJ refuses
         x = y = inf
     if not (isfinite(x) and isfinite(y)):

@@ -53,9 +53,9 @@ def window_of(grid: Grid, start: Cell, outlet: Cell, steps: int) -> Window:
 def draw_path(grid: Grid, accumulation: NumberGrid, traced: OutletTraced, start: Cell) -> FlowPath:
     """A longest path of an outlet.
 
-    The library tests every cell that it is lent, so it is lent a window that the path cannot leave. The border cuts off
-    other walks, none of them the path's, and of the outlets the path meets this one first, so that it is listed alone.
-    A window of more than a quarter of the grid saves no time: then the whole grid is lent, with its accumulation.
+    The library tests every cell that it is lent, so it is lent only a window, which the path cannot leave; other walks
+    may end at its border. The path meets no outlet before this one, which is therefore listed alone. A window of more
+    than a quarter of the grid saves no time: then the whole grid is lent, with its accumulation.
     """
     window = window_of(grid, start, traced.outlet, traced.length.straight + traced.length.diagonal)
     if 4 * window.cells > grid.rows * grid.columns:
@@ -80,7 +80,7 @@ def draw_paths(
 def trace_outlets(
     grid: Grid, outlets: Sequence[Cell], edition: int, dropping: bool, accumulation: NumberGrid
 ) -> tuple[OutletTraced, ...]:
-    """Traces every outlet: in one call, or without dropping in a call for each, so that one grid of numbers is kept."""
+    """Traces every outlet: in one call, or without dropping in a call for each, to tell how many are done."""
     if dropping or not outlets:
         with stage("tracing"):
             return trace(grid, outlets, None, edition, dropping, accumulation).outlets

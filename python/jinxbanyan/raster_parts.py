@@ -14,9 +14,10 @@ from .paths import draw_paths, trace_outlets
 from .plot import Picture
 from .points import Points, read_points
 from .progress import counter, say, stage
-from .rasters import Raster, needed, on_map, position, read_raster, write_raster
+from .rasters import Raster, check_square, needed, on_map, position, read_raster, write_raster
 from .refusals import Cell
 from .rings import rings
+from .sheet_parts import add_edition_to
 from .sheets import read_sheet
 from .tracing import OutletTraced
 
@@ -25,7 +26,7 @@ _SHEET = b"D8"
 _MORE_THAN_A_SHEET = 2**16
 
 _DIRECTIONS = """flow directions: the first band of a GeoTIFF, an ESRI ASCII grid or another raster that GDAL reads,
-north up, with square cells, at most 4,096 rows and columns; cells without data are null"""
+north up, at most 4,096 rows and columns; cells without data are null"""
 _TABLE = """the table of the codes: 1 ArcGIS, powers of two clockwise from east; 2 GRASS, 1 to 8 counter-clockwise from
 north-east; 3 RichDEM, 1 to 8 clockwise from west; 0 is null and 255 a closed pond in each"""
 _TRACE = """For each outlet: how many cells its subwatershed has, and all its longest flow paths, ties included. A line
@@ -45,7 +46,7 @@ def add_to(parts: "argparse._SubParsersAction[Any]") -> None:
 def _add_trace(parts: "argparse._SubParsersAction[Any]") -> None:
     part = parts.add_parser("trace", help="all longest flow paths to the outlets of a raster", description=_TRACE)
     part.set_defaults(carry_out=_trace)
-    part.add_argument("directions", metavar="DIRECTIONS", help=_DIRECTIONS)
+    part.add_argument("directions", metavar="DIRECTIONS", help=f"{_DIRECTIONS}; cells must be square")
     part.add_argument(
         "--outlets",
         metavar="POINTS",
@@ -54,13 +55,7 @@ def _add_trace(parts: "argparse._SubParsersAction[Any]") -> None:
     )
     part.add_argument("--table", metavar="N", type=int, choices=(1, 2, 3), required=True, help=_TABLE)
     part.add_argument("--out", metavar="PATHS.geojson", required=True, help="where the longest flow paths are written")
-    part.add_argument(
-        "--edition",
-        type=int,
-        choices=(1, 2),
-        default=1,
-        help="1: a path may start at any cell, as without this option; 2: on the divide of the subwatershed alone",
-    )
+    add_edition_to(part)
     part.add_argument(
         "--no-dropping",
         dest="dropping",
@@ -99,6 +94,7 @@ def _trace(given: argparse.Namespace) -> None:
         needed("matplotlib")
     points = read_points(given.outlets)
     raster = _read(given)
+    check_square(given.directions, raster)
     if raster.crs and raster.crs.is_geographic:
         say("warning: the raster is in degrees and so are the lengths: project it first to have them on the ground")
     outlets = outlets_at(points, raster, given.outlets_crs)
@@ -108,11 +104,13 @@ def _trace(given: argparse.Namespace) -> None:
         traced = trace_outlets(raster.grid, outlets, given.edition, given.dropping, accumulation)
 
     picture = Picture(raster) if pictures else None
-    write_lines(given.out, raster, _path_lines(raster, accumulation, points, traced, picture))
+    with stage("drawing paths"):
+        write_lines(given.out, raster, _path_lines(raster, accumulation, points, traced, picture))
     if lengths:
         _write_lengths(raster, outlets, accumulation, lengths)
     if picture:
-        picture.write(given.picture, traced)
+        with stage("making the picture"):
+            picture.write(given.picture, traced)
     for one in traced:
         print(_outlet_line(one))
 
@@ -149,7 +147,8 @@ def _rings(given: argparse.Namespace) -> None:
         grid = raster.grid
     found = rings(grid, counter("following cells", grid.rows * grid.columns))
     if raster and given.out:
-        write_lines(given.out, raster, (ring_line(*numbered) for numbered in enumerate(found, 1)))
+        with stage("writing rings"):
+            write_lines(given.out, raster, (ring_line(*numbered) for numbered in enumerate(found, 1)))
     print(f"rings {len(found)}")
     for number, ring in enumerate(found, 1):
         print(f"ring {number} cells {len(ring.cells)}")

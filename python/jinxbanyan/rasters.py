@@ -26,7 +26,7 @@ _INSTALL = "install Debian's python3-rasterio python3-numpy python3-matplotlib, 
 
 @dataclass(frozen=True)
 class Raster:
-    """Flow directions on the map, north up, with square cells.
+    """Flow directions on the map, north up.
 
     grid: the directions in table 1.
     crs: the coordinate system as rasterio has it; None where the file names none.
@@ -38,7 +38,7 @@ class Raster:
 
     @property
     def side(self) -> float:
-        """The side of a cell in map units."""
+        """The side of a cell in map units, where cells are square."""
         return self.transform[0]
 
     @property
@@ -108,8 +108,16 @@ def read_raster(path: str, table: int) -> Raster:
         band = dataset.read(1, masked=True)
     with on_map(transform):
         grid = convert(Grid.of(band.filled(NULL), table), 1)
-    _check_transform(path, transform)
+    _check_north_up(path, transform)
     return Raster(grid, transform, crs)
+
+
+def check_square(path: str, raster: Raster) -> None:
+    """Lengths are measured on square cells alone. Raises Unfit."""
+    width, _, _, _, height, _ = raster.transform
+    if not isclose(width, -height, rel_tol=_SQUARE):
+        cells = f"{width:.12g} by {-height:.12g} map units"
+        raise Unfit(f"the cells of {path} are {cells}, and only square cells can be measured so far")
 
 
 def write_raster(path: str, raster: Raster, of_cells: NumberGrid) -> None:
@@ -137,12 +145,9 @@ def _centre(transform: Transform, cell: tuple[int, int]) -> tuple[float, float]:
     return a * column + b * row + c, d * column + e * row + f
 
 
-def _check_transform(path: str, transform: Transform) -> None:
+def _check_north_up(path: str, transform: Transform) -> None:
     width, turned_x, _, turned_y, height, _ = transform
     if transform == _UNPLACED:
         raise Unfit(f"{path} has no place on the map: it has no georeference")
     if not (width > 0 > height and turned_x == 0 == turned_y):
         raise Unfit(f"{path} is turned or mirrored: warp it north-up first")
-    if not isclose(width, -height, rel_tol=_SQUARE):
-        cells = f"{width:.12g} by {-height:.12g} map units"
-        raise Unfit(f"the cells of {path} are {cells}, and only square cells can be measured so far")

@@ -63,22 +63,23 @@ def trace(
     """
     on = ground(grid, outlets, accumulation)
     if place is not None:
-        return _trace_one(on, place, edition, dropping)
+        return _trace_one(on, on.places(), place, edition, dropping)
     if dropping:
         return _trace_all(on, edition)
     # Without an outlet the library is asked for the first all the same, and refuses.
-    each = [_trace_one(on, at, edition, dropping) for at in range(len(on.outlets) or 1)]
+    subaccumulation = on.places()
+    each = [_trace_one(on, subaccumulation, at, edition, dropping) for at in range(len(on.outlets) or 1)]
     return Tracing(
         edition,
-        each[0].subaccumulation,
+        on.with_numbers(subaccumulation),
         tuple(one.outlets[0] for one in each),
         sum(one.visited for one in each),
         sum(one.dropped for one in each),
     )
 
 
-def _trace_one(on: Ground, place: int, edition: int, dropping: bool) -> Tracing:
-    subaccumulation, found = on.places(), results(5)
+def _trace_one(on: Ground, subaccumulation: "array[int]", place: int, edition: int, dropping: bool) -> Tracing:
+    found = results(5)
     work = numbers(_WORK_EACH * on.most_cells(on.outlets[place : place + 1]))
 
     def list_starts(starts: "array[int]") -> None:

@@ -1,4 +1,4 @@
-"""The repository's sample sheets."""
+"""The repository's sample sheets, and a grid that more than one set of tests has."""
 
 from collections.abc import Iterator
 from pathlib import Path
@@ -9,6 +9,11 @@ ROOT = Path(__file__).resolve().parents[2]
 """The repository."""
 
 SAMPLES = ROOT / "samples"
+
+# Drawn: ↓ ← ←   The flow winds from the middle cell out to the last one: the middle is no part of the divide.
+#        ↓ → ↑
+#        → → ↓
+SNAIL = [[4, 16, 16], [4, 1, 64], [1, 1, 4]]
 
 
 def sample_sheets() -> Iterator[tuple[str, Sheet]]:

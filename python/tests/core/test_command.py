@@ -6,29 +6,15 @@ import sys
 import unittest
 from contextlib import redirect_stdout
 from io import StringIO
-from pathlib import Path
-from tempfile import TemporaryDirectory
 from textwrap import dedent
 
-from tests.running import Ran, run
+from tests.running import FilesCase, Ran, run
 from tests.samples import ROOT, SAMPLES
 
 README = (ROOT / "README.md").read_text(encoding="utf-8")
 
 
-class Command(unittest.TestCase):
-    def setUp(self) -> None:
-        directory = TemporaryDirectory()
-        self.addCleanup(directory.cleanup)
-        self.here = Path(directory.name)
-
-    def assert_fails(self, ran: Ran, status: int, *words: str) -> None:
-        """The command failed with a status and one line that has the words."""
-        self.assertEqual((ran.status, ran.out), (status, ""))
-        self.assertRegex(ran.err, r"\Ajinxbanyan[^\n]*\n\Z")
-        for word in words:
-            self.assertIn(word, ran.err)
-
+class Command(FilesCase):
     def test_a_drawing_becomes_a_sheet_and_a_picture(self) -> None:
         sheet, svg = self.here / "valley.sheet", self.here / "valley.svg"
         self.assertEqual(run("make", SAMPLES / "valley.drawing", sheet), Ran(0, "", ""))

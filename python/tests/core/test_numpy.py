@@ -2,6 +2,7 @@
 
 import unittest
 import warnings
+from typing import Any
 
 from jinxbanyan import Cell, Grid, Place, accumulate, trace
 
@@ -36,7 +37,7 @@ class Arrays(Case):
             self.assertEqual(Grid.of(lent), Grid.of(CODES))
 
     def test_masked_cells_are_null(self) -> None:
-        masked = numpy.ma.MaskedArray([[1, 255, 16]], [[False, True, False]])
+        masked: Any = numpy.ma.MaskedArray([[1, 255, 16]], [[False, True, False]])  # type: ignore[no-untyped-call]
         self.assertEqual(Grid.of(masked), Grid.of([[1, 0, 16]]))
 
     def test_cells_in_small_numbers(self) -> None:

@@ -1,11 +1,9 @@
 """What the tests of rasters share: a small valley on the map, files of it, and the command run on them."""
 
 import json
-import unittest
 import warnings
 from collections.abc import Sequence
 from pathlib import Path
-from tempfile import TemporaryDirectory
 from typing import Any
 
 import numpy
@@ -13,7 +11,7 @@ import rasterio  # type: ignore[import]
 from rasterio.errors import NotGeoreferencedWarning  # type: ignore[import]
 from rasterio.transform import Affine  # type: ignore[import]
 
-from tests.running import Ran, run
+from tests.running import FilesCase, Ran, run
 
 UTM = "EPSG:32632"
 PLACE = (10.0, 0.0, 500000.0, 0.0, -10.0, 5200000.0)
@@ -41,19 +39,12 @@ UPPER_PATH = [[500005, 5199985], [500015, 5199995], [500025, 5199995], [500025, 
 #        ↑ ← .
 RING = [[1, 4, 16], [64, 16, 0]]
 
-# Drawn: ↓ ← ←   The flow winds from the middle cell out to the last one: the middle is no part of the divide.
-#        ↓ → ↑
-#        → → ↓
-SNAIL = [[4, 16, 16], [4, 1, 64], [1, 1, 4]]
 
-
-class Case(unittest.TestCase):
-    """A test with a directory of its own."""
+class Case(FilesCase):
+    """A test that makes rasters and points."""
 
     def setUp(self) -> None:
-        directory = TemporaryDirectory()
-        self.addCleanup(directory.cleanup)
-        self.here = Path(directory.name)
+        super().setUp()
         self.out = self.here / "out.geojson"
 
     def raster(
@@ -87,11 +78,6 @@ class Case(unittest.TestCase):
         """A table of points: x, y and perhaps a name."""
         return self.text("".join(",".join(map(str, point)) + "\n" for point in points), name)
 
-    def text(self, text: str, name: str) -> Path:
-        """A file that holds a text."""
-        (self.here / name).write_text(text, encoding="utf-8")
-        return self.here / name
-
     def trace(self, directions: Path, outlets: Path, *others: object, table: int = 1) -> Ran:
         """The command trace, which writes to self.out."""
         return run("trace", directions, "--outlets", outlets, "--table", table, "--out", self.out, *others)
@@ -108,10 +94,7 @@ class Case(unittest.TestCase):
 
     def assert_fails(self, ran: Ran, status: int, *words: str) -> None:
         """The command failed with a status and one line that has the words, and wrote nothing."""
-        self.assertEqual((ran.status, ran.out), (status, ""))
-        self.assertRegex(ran.err, r"\Ajinxbanyan[^\n]*\n\Z")
-        for word in words:
-            self.assertIn(word, ran.err)
+        super().assert_fails(ran, status, *words)
         self.assertFalse(self.out.exists())
 
     def assert_warns(self, ran: Ran, out: str, *words: str) -> None:

@@ -7,7 +7,7 @@ from unittest.mock import patch
 from tests.running import Ran, run
 from tests.samples import SAMPLES
 
-from .support import RING, UPPER, VALLEY, VALLEY_2, Case
+from .support import RING, UPPER, VALLEY_2, Case
 
 RING_LINES = """\
 rings 1
@@ -45,6 +45,11 @@ class Rings(Case):
     def test_no_rings(self) -> None:
         self.assertEqual(run("rings", self.raster(), "--table", 1, "--out", self.out), Ran(0, "rings 0\n", ""))
         self.assertEqual(json.loads(self.out.read_text())["features"], [])
+
+    def test_oblong_cells(self) -> None:
+        oblong = self.raster([[1, 16]], place=(10, 0, 500000, 0, -20, 5200000))
+        due = "rings 1\nring 1 cells 2\ncell 0 0 at 500005 5199990\ncell 0 1 at 500015 5199990\n"
+        self.assertEqual(run("rings", oblong, "--table", 1), Ran(0, due, ""))
 
     def test_other_tables(self) -> None:
         self.assertEqual(run("rings", self.raster(VALLEY_2), "--table", 2), Ran(0, "rings 0\n", ""))

@@ -15,7 +15,9 @@ from jinxbanyan.outputs import whole
 from tests.running import Ran, run
 from tests.samples import sample_sheets
 
-from .support import LOWER, LOWER_LINE, PLACE, SNAIL, UPPER, UPPER_LINE, UPPER_PATH, UTM, VALLEY, Case
+from tests.samples import SNAIL
+
+from .support import LOWER, LOWER_LINE, PLACE, UPPER, UPPER_LINE, UPPER_PATH, UTM, Case
 
 # The flow lengths of the valley with both outlets.
 DOWN_STRAIGHT = [[4, 3, 2, 0], [3, 0, 1, 2], [0, 1, 0, 0]]

@@ -5,8 +5,7 @@ from typing import Any
 
 from jinxbanyan.faults import Unfit
 from jinxbanyan.points import Point, Points, read_points
-
-from .support import Case
+from tests.running import FilesCase
 
 
 def feature(coordinates: object, kind: str = "Point", **others: Any) -> dict[str, Any]:
@@ -19,7 +18,7 @@ def collection(*features: object, **others: Any) -> dict[str, Any]:
     return {"type": "FeatureCollection", "features": list(features), **others}
 
 
-class Tables(Case):
+class Tables(FilesCase):
     def read(self, text: str, name: str = "outlets.csv") -> tuple[Point, ...]:
         read = read_points(str(self.text(text, name)))
         self.assertIsNone(read.crs)
@@ -77,7 +76,7 @@ class Tables(Case):
             read_points(str(self.here / "outlets.csv"))
 
 
-class GeoJson(Case):
+class GeoJson(FilesCase):
     def read(self, whole: object) -> Points:
         return read_points(str(self.text(json.dumps(whole), "outlets.geojson")))
 

@@ -7,8 +7,7 @@ from unittest.mock import patch
 from jinxbanyan import Cell, Grid, accumulate, draw, rings, trace
 from jinxbanyan.compass import DIRECTIONS, POND
 from jinxbanyan.paths import Window, draw_path, draw_paths, trace_outlets, window_of
-
-from .support import SNAIL
+from tests.samples import SNAIL
 
 
 def rough_grid(chance: random.Random, rows: int, columns: int) -> Grid:
