@@ -50,14 +50,11 @@ def follow(
 
     report is told now and then how many cells have been gone through.
     """
-    rows, columns, width = grid.rows, grid.columns, grid.columns + 1
-    codes = _bordered(grid)
+    width = grid.columns + 1
+    codes, moves = _bordered(grid), _moves(width)
     names = array("H", _spread(codes.translate(_ENDS)))
     for place, outlet in enumerate(outlets):
         names[(outlet.row + 1) * width + outlet.column] = place + _FIRST_OUTLET
-    moves = [0] * 256
-    for direction in DIRECTIONS:
-        moves[direction.code] = direction.south * width + direction.east
 
     rings: list[tuple[Cell, ...]] = []
     reported = start = 0
@@ -68,7 +65,7 @@ def follow(
             break
         if start - reported >= _REPORT_EVERY:
             reported = start
-            report(min(start, rows * columns))
+            report(min(start, len(grid.codes)))
         trail = []
         at = start
         while not names[at]:
@@ -82,7 +79,15 @@ def follow(
             rings.append(tuple(Cell(number // width - 1, number % width) for number in round_ring))
         for passed in trail:
             names[passed] = met
-    return Followed(rows, columns, names, rings)
+    return Followed(grid.rows, grid.columns, names, rings)
+
+
+def _moves(width: int) -> list[int]:
+    """How far on each code leads in rows of a width; a code of no direction leads nowhere."""
+    moves = [0] * 256
+    for direction in DIRECTIONS:
+        moves[direction.code] = direction.south * width + direction.east
+    return moves
 
 
 def _bordered(grid: Grid) -> bytes:

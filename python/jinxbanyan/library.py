@@ -97,7 +97,7 @@ def _handed(arguments: tuple[Any, ...]) -> Iterator[Any]:
             yield byref(c_uint8.from_buffer(argument or bytearray(1)))
             yield len(argument)
         elif isinstance(argument, array):
-            # A pointer is never null, even where nothing is lent.
+            # A pointer is never null, even where there is nothing to hand over.
             yield byref(c_uint32.from_buffer(argument or numbers(1)))
             yield len(argument)
         elif isinstance(argument, int):

@@ -53,9 +53,9 @@ def window_of(grid: Grid, start: Cell, outlet: Cell, steps: int) -> Window:
 def draw_path(grid: Grid, accumulation: NumberGrid, traced: OutletTraced, start: Cell) -> FlowPath:
     """A longest path of an outlet.
 
-    The library tests every cell that it is lent, so it is lent only a window, which the path cannot leave; other walks
-    may end at its border. The path meets no outlet before this one, which is therefore listed alone. A window of more
-    than a quarter of the grid saves no time: then the whole grid is lent, with its accumulation.
+    The library tests every cell that it is given, so it is given a window that the path cannot leave; other flow may
+    end at its border. The path meets no outlet before this one, which is therefore listed alone. A window of more than
+    a quarter of the grid saves no time: then the whole grid is given, with its accumulation.
     """
     window = window_of(grid, start, traced.outlet, traced.length.straight + traced.length.diagonal)
     if 4 * window.cells > grid.rows * grid.columns:
