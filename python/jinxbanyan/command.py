@@ -47,6 +47,8 @@ def main(arguments: Sequence[str] | None = None) -> int:
     except BrokenPipeError:
         os.dup2(os.open(os.devnull, os.O_WRONLY), sys.stdout.fileno())
         return 2
+    except KeyboardInterrupt:
+        return _fail("stopped", 2)
     except (Unready, LibraryMissing) as fault:
         return _fail(fault, 2)
     except OSError as fault:

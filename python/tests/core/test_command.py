@@ -1,5 +1,6 @@
 """The command, as it is called: its parts, its errors on one line, and its exit status."""
 
+import os
 import re
 import subprocess
 import sys
@@ -7,7 +8,9 @@ import unittest
 from contextlib import redirect_stdout
 from io import StringIO
 from textwrap import dedent
+from unittest.mock import patch
 
+from jinxbanyan.library import load
 from tests.running import FilesCase, Ran, run
 from tests.samples import ROOT, SAMPLES
 
@@ -65,6 +68,16 @@ class Command(FilesCase):
         self.assert_fails(run("picture", "a.sheet", "b.svg", "--edition", "3"), 2, "--edition")
         self.assert_fails(run("show", self.here / "none.sheet"), 2, "none.sheet: No such file or directory")
         self.assert_fails(run("make", SAMPLES / "valley.drawing", self.here), 2, "it is not a file")
+
+    def test_no_library(self) -> None:
+        with patch.dict(os.environ, {"JINXBANYAN_LIBRARY": str(self.here / "none.so")}):
+            load.cache_clear()
+            self.addCleanup(load.cache_clear)
+            self.assert_fails(run("show", SAMPLES / "pond.sheet"), 2, "none.so cannot be loaded", "build-library")
+
+    def test_stopped(self) -> None:
+        with patch("jinxbanyan.sheet_parts.read_sheet", side_effect=KeyboardInterrupt):
+            self.assert_fails(run("show", SAMPLES / "pond.sheet"), 2, "stopped")
 
     def test_help(self) -> None:
         for part in ("make", "show", "picture", "trace", "rings"):
