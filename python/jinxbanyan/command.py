@@ -20,7 +20,7 @@ class _Parser(argparse.ArgumentParser):
     """A parser that tells of wrong arguments on one line."""
 
     def error(self, message: str) -> NoReturn:
-        self.exit(2, f"{self.prog}: {message} (see {self.prog} --help)\n")
+        self.exit(2, f"{self.prog}: {' '.join(message.split())} (see {self.prog} --help)\n")
 
 
 def parser() -> argparse.ArgumentParser:
@@ -36,6 +36,8 @@ def parser() -> argparse.ArgumentParser:
 
 def main(arguments: Sequence[str] | None = None) -> int:
     """Carries out one command and gives its exit status."""
+    if sys.stdout is None:
+        return _fail("there is no standard output", 2)
     if isinstance(sys.stdout, TextIOWrapper):
         sys.stdout.reconfigure(encoding="utf-8")
     given = parser().parse_args(arguments)

@@ -20,14 +20,15 @@ _NULL_SIGN, _POND_SIGN = ".", "~"
 _SIGNS = {direction.arrow: direction.code for direction in DIRECTIONS} | {_NULL_SIGN: NULL, _POND_SIGN: POND}
 _LETTERS = {direction.name: direction.code for direction in DIRECTIONS}
 _SIGN_OF = {code: sign for sign, code in _SIGNS.items()}
+_READ = _SIGNS | _LETTERS
 _LETTERS_OF = _SIGN_OF | {code: letters for letters, code in _LETTERS.items()}
 
-# What an editor or a telephone may add to a text unseen: a mark at its beginning, and how an arrow is to look.
-_UNSEEN = dict.fromkeys(map(ord, "\ufeff\ufe0e\ufe0f"))
+# What an editor or a telephone may put in a text: marks that are not seen, and straight arrows of its own.
+_ODD_SIGNS = dict.fromkeys(map(ord, "\ufeff\ufe0e\ufe0f\u200b\u200d")) | str.maketrans("➡⬇⬅⬆", "→↓←↑")
 
 # A cell in a line: letters to the end of their word, or any other sign, and the mark of an outlet.
 _CELL = re.compile(r"\s*([A-Za-z]+|\S)(\*?)")
-_OUTLET = re.compile(r"outlet\s+(\d+)\s+(\d+)\s*")
+_OUTLET = re.compile(r"outlet\s+(\d{1,9})\s+(\d{1,9})\s*")
 
 
 def read_drawing(text: str) -> Sheet:
@@ -35,7 +36,7 @@ def read_drawing(text: str) -> Sheet:
     codes: list[bytes] = []
     marked: list[Cell] = []
     listed: list[Cell] = []
-    for number, line in enumerate(text.translate(_UNSEEN).splitlines(), 1):
+    for number, line in enumerate(text.translate(_ODD_SIGNS).splitlines(), 1):
         line = line.strip()
         if not line or line.startswith("#"):
             continue
@@ -77,9 +78,10 @@ def write_drawing(sheet: Sheet, letters: bool = False) -> str:
 def _cells_in(number: int, line: str) -> Iterator[tuple[int, bool]]:
     """The code of each cell in a line, and whether it is marked as an outlet."""
     for sign, mark in _CELL.findall(line):
-        code = _LETTERS.get(sign.upper(), _SIGNS.get(sign))
+        code = _READ.get(sign.upper())
         if code is None:
             hint = ", and letters of two cells need a space between them" if len(sign) > 1 else ""
+            hint = hint or ("; it stands right after its cell" if sign == OUTLET_MARK else "")
             raise Unfit(f"line {number}: {sign} is neither a direction nor null nor a pond{hint}")
         yield code, bool(mark)
 

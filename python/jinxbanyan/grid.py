@@ -29,7 +29,12 @@ class Grid:
     table: int = 1
 
     def __post_init__(self) -> None:
-        object.__setattr__(self, "codes", bytes(memoryview(self.codes)))
+        for name in ("rows", "columns", "table"):
+            object.__setattr__(self, name, index(getattr(self, name)))
+        codes = memoryview(self.codes)
+        if codes.itemsize != 1:
+            raise TypeError("the codes of a grid are bytes")
+        object.__setattr__(self, "codes", bytes(codes))
         if len(self.codes) > max(self.rows * self.columns, 0):
             raise ValueError(f"{len(self.codes)} codes for {self.rows} rows of {self.columns} columns")
 
@@ -58,6 +63,8 @@ class Grid:
         given = codes.filled(NULL) if hasattr(codes, "filled") else numpy.asarray(codes)
         if given.ndim != 2:
             raise ValueError("an array of codes must have rows and columns")
+        if given.dtype.kind not in "biufO":
+            raise TypeError("an array of codes must have real numbers")
         rows, columns = given.shape
         with numpy.errstate(invalid="ignore"):
             as_bytes = given.astype(numpy.uint8)
@@ -83,6 +90,9 @@ class Grid:
 
         return numpy.frombuffer(self.codes, numpy.uint8).reshape(self.rows, self.columns)
 
+    def __array__(self, dtype: Any = None, copy: bool | None = None) -> "NumpyArray":
+        return _converted(self.numpy(), dtype, copy)
+
 
 @dataclass(frozen=True)
 class NumberGrid:
@@ -91,6 +101,10 @@ class NumberGrid:
     rows: int
     columns: int
     numbers: "array[int]"
+
+    def __post_init__(self) -> None:
+        if not isinstance(self.numbers, array) or self.numbers.typecode != "I":
+            raise TypeError("the numbers of a grid are an array of the type I")
 
     def __getitem__(self, cell: tuple[int, int]) -> int:
         row, column = cell
@@ -112,11 +126,7 @@ class NumberGrid:
         return numbers
 
     def __array__(self, dtype: Any = None, copy: bool | None = None) -> "NumpyArray":
-        import numpy
-
-        return (
-            numpy.array(self.numpy(), dtype=dtype) if copy else self.numpy().astype(dtype or numpy.uint32, copy=False)
-        )
+        return _converted(self.numpy(), dtype, copy)
 
 
 @dataclass(frozen=True)
@@ -129,3 +139,8 @@ class Length:
     def shown(self, side: float = 1.0) -> float:
         """The length in map units of a cell's side, rounded, for display alone."""
         return (self.straight + self.diagonal * sqrt(2)) * side
+
+
+def _converted(view: "NumpyArray", dtype: Any, copy: bool | None) -> "NumpyArray":
+    """A view as numpy.asarray asks for it: of another type, or copied."""
+    return view.astype(dtype or view.dtype, copy=bool(copy))

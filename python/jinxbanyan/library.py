@@ -5,6 +5,7 @@ from array import array
 from collections.abc import Iterator
 from ctypes import CDLL, POINTER, Array, byref, c_char_p, c_size_t, c_uint8, c_uint32
 from functools import cache
+from operator import index
 from pathlib import Path
 from typing import Any
 
@@ -63,10 +64,16 @@ def load() -> CDLL:
             function.argtypes = takes
             function.restype = None if name == "jb_starts_of" else c_uint32
     except (OSError, AttributeError) as fault:
-        script = Path(__file__).parent.parent / "build-library"
-        how = script if script.exists() else "python/build-library in the repository, and install the package again"
-        raise LibraryMissing(f"the library {path()} cannot be loaded: to make it, run {how}") from fault
+        raise LibraryMissing(f"the library {path()} cannot be loaded: {_remedy()}") from fault
     return library
+
+
+def _remedy() -> str:
+    script = Path(__file__).parent.parent / "build-library"
+    how = script if script.exists() else "python/build-library in the repository, and install the package again"
+    if os.environ.get(ENVIRONMENT):
+        return f"{ENVIRONMENT} names it; to make the one that is taken without that, run {how}"
+    return f"to make it, run {how}"
 
 
 def numbers(count: int) -> "array[int]":
@@ -97,10 +104,13 @@ def _handed(arguments: tuple[Any, ...]) -> Iterator[Any]:
             yield byref(c_uint8.from_buffer(argument or bytearray(1)))
             yield len(argument)
         elif isinstance(argument, array):
+            if argument.typecode != "I":
+                raise TypeError(f"numbers of the type {argument.typecode} where those of the type I are taken")
             # A pointer is never null, even where there is nothing to hand over.
             yield byref(c_uint32.from_buffer(argument or numbers(1)))
             yield len(argument)
-        elif isinstance(argument, int):
-            yield argument if 0 <= argument <= GREATEST else GREATEST
-        else:
+        elif isinstance(argument, Array):
             yield argument
+        else:
+            number = index(argument)
+            yield number if 0 <= number <= GREATEST else GREATEST

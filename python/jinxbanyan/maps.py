@@ -43,7 +43,8 @@ def write_lines(path: str, raster: Raster, lines: Iterable[Line]) -> None:
     named = _crs_member(raster)
     if named is None:
         system = "has no EPSG code" if raster.crs else "is not known"
-        say(f"warning: the coordinate system of the raster {system}, so {path} names none")
+        unnamed = f"so {path} names none, and programs take it for WGS 84 until they are told another"
+        say(f"warning: the coordinate system of the raster {system}, {unnamed}")
     with whole(path) as part, part.open("w", encoding="ascii") as file:
         crs = "" if named is None else f'"crs": {json.dumps(named)},\n'
         file.write('{"type": "FeatureCollection",\n' + crs + '"features": [')

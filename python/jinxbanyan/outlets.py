@@ -38,7 +38,7 @@ def _outside(outlet: str, point: Point, at: Point, raster: Raster) -> str:
         advice = "; --outlets-crs names the coordinate system of outlets that are in another one"
     else:
         outlet, advice = f"{outlet}, in the raster's coordinates {position(at.x, at.y)},", ""
-    extent = f"x from {west:.12g} to {east:.12g} and y from {south:.12g} to {north:.12g}"
+    extent = f"x from {west:.12g} to below {east:.12g} and y from {north:.12g} to above {south:.12g}"
     return f"{outlet} is outside the raster, which has {extent}{advice}"
 
 

@@ -140,8 +140,9 @@ def _write_legend(svg: Element, tracing: Tracing, lines: list[str], top: int) ->
 
 def _legend_line(traced: OutletTraced) -> str:
     paths = "1 longest path" if traced.paths == 1 else f"{traced.paths} longest paths, tied"
+    cells = "1 cell" if traced.cells == 1 else f"{traced.cells} cells"
     return (
-        f"outlet {traced.place + 1} at {traced.outlet}: {traced.cells} cells, {paths},"
+        f"outlet {traced.place + 1} at {traced.outlet}: {cells}, {paths},"
         f" {traced.length.straight} straight + {traced.length.diagonal} diagonal"
     )
 

@@ -2,6 +2,7 @@
 
 import csv
 import json
+import re
 from collections.abc import Iterator
 from dataclasses import dataclass
 from io import StringIO
@@ -14,6 +15,7 @@ from .faults import Unfit
 _TABLE_SUFFIXES = {".csv", ".txt", ".tsv"}
 _GEOJSON_SUFFIXES = {".geojson", ".json"}
 _DELIMITERS = "\t;,"
+_QUOTED = re.compile(r'"[^"]*"')
 _X_AND_Y = (("x", "y"), ("easting", "northing"), ("e", "n"), ("lon", "lat"), ("longitude", "latitude"))
 _NAMES = ("name", "id")
 _NO_COLUMNS = (
@@ -65,16 +67,17 @@ def read_points(path: str) -> Points:
 
 
 def _of_table(text: str) -> Points:
-    first = text.strip().partition("\n")[0]
+    first = _QUOTED.sub("", text.strip().partition("\n")[0])
     delimiter = next((mark for mark in _DELIMITERS if mark in first), ",")
-    rows = csv.reader(StringIO(text), delimiter=delimiter, strict=True)
+    rows = csv.reader(StringIO(text), delimiter=delimiter, skipinitialspace=True, strict=True)
     try:
-        return Points(tuple(_points_of_rows(rows)))
+        return Points(tuple(_points_of_rows(rows, "." if delimiter == "," else ",")))
     except (csv.Error, Unfit) as fault:
         raise Unfit(f"line {rows.line_num}: {fault}") from fault
 
 
-def _points_of_rows(rows: Iterator[list[str]]) -> Iterator[Point]:
+def _points_of_rows(rows: Iterator[list[str]], decimal: str) -> Iterator[Point]:
+    """The points of a table's rows. decimal is the sign that may stand for a decimal point."""
     columns = None
     for row in rows:
         fields = [field.strip() for field in row]
@@ -85,9 +88,9 @@ def _points_of_rows(rows: Iterator[list[str]]) -> Iterator[Point]:
             if columns is not None:
                 continue
             columns = _Columns(0, 1, 2)
-            if not all(map(_is_number, (fields + [""])[:2])):
+            if any(_number(field, decimal) is None for field in (fields + [""])[:2]):
                 raise Unfit(_NO_COLUMNS)
-        yield _point_of(fields, columns)
+        yield _point_of(fields, columns, decimal)
 
 
 def _header(fields: list[str]) -> _Columns | None:
@@ -100,22 +103,28 @@ def _header(fields: list[str]) -> _Columns | None:
     return None
 
 
-def _point_of(fields: list[str], columns: _Columns) -> Point:
+def _point_of(fields: list[str], columns: _Columns, decimal: str) -> Point:
     if len(fields) <= max(columns.x, columns.y):
         raise Unfit("a point has two coordinates")
-    x, y = fields[columns.x], fields[columns.y]
-    for field in (x, y):
-        if not _is_number(field):
-            raise Unfit(f"{field!r} is not a number")
+    x, y = (_coordinate(fields[at], decimal) for at in (columns.x, columns.y))
     name = "" if columns.name is None else "".join(fields[columns.name : columns.name + 1])
-    return Point(float(x), float(y), name or None)
+    return Point(x, y, name or None)
 
 
-def _is_number(value: str | float) -> bool:
+def _coordinate(value: Any, decimal: str = ".") -> float:
+    number = _number(value, decimal)
+    if number is None:
+        raise Unfit(f"{value!r} is not a number")
+    return number
+
+
+def _number(value: str | float, decimal: str) -> float | None:
+    """A number in decimal digits; None where it is none, or has no end."""
     try:
-        return isfinite(float(value))
-    except (ValueError, OverflowError):
-        return False
+        number = float(str(value).replace(decimal, "."))
+    except ValueError:
+        return None
+    return number if isfinite(number) and "_" not in str(value) else None
 
 
 def _of_geojson(text: str) -> Points:
@@ -178,6 +187,6 @@ def _x_and_y(position: Any) -> tuple[float, float]:
     if not isinstance(position, list) or len(position) < 2:
         raise Unfit("a point has two coordinates")
     for value in position[:2]:
-        if isinstance(value, bool) or not isinstance(value, (int, float)) or not _is_number(value):
+        if isinstance(value, bool) or not isinstance(value, (int, float)):
             raise Unfit(f"{value!r} is not a number")
-    return float(position[0]), float(position[1])
+    return _coordinate(position[0]), _coordinate(position[1])

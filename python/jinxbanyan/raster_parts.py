@@ -51,7 +51,8 @@ def _add_trace(parts: "argparse._SubParsersAction[Any]") -> None:
         "--outlets",
         metavar="POINTS",
         required=True,
-        help="points of GeoJSON, or a table (CSV) with columns x and y and perhaps name, in the raster's coordinates",
+        help="points of GeoJSON, or a table (CSV) with columns x and y, easting and northing, or lon and lat, and"
+        " perhaps name; in the raster's coordinates, unless the GeoJSON names others",
     )
     part.add_argument("--table", metavar="N", type=int, choices=(1, 2, 3), required=True, help=_TABLE)
     part.add_argument("--out", metavar="PATHS.geojson", required=True, help="where the longest flow paths are written")
@@ -68,7 +69,11 @@ def _add_trace(parts: "argparse._SubParsersAction[Any]") -> None:
         help="the coordinate system of the outlets where it is not the raster's, such as EPSG:4326",
     )
     files = ", ".join(f"PREFIX_{name}.tif" for name in _LENGTHS)
-    part.add_argument("--lengths", metavar="PREFIX", help=f"write the flow lengths of every cell, in steps, to {files}")
+    part.add_argument(
+        "--lengths",
+        metavar="PREFIX",
+        help=f"write the flow lengths of every cell, in steps, 0 where it drains to no outlet, to {files}",
+    )
     part.add_argument("--picture", metavar="FILE.png", help="draw the subwatersheds and the longest flow paths")
 
 
@@ -87,13 +92,17 @@ def _read(given: argparse.Namespace) -> Raster:
 
 
 def _trace(given: argparse.Namespace) -> None:
-    lengths = {name: f"{given.lengths}_{name}.tif" for name in _LENGTHS} if given.lengths else {}
-    pictures = [given.picture] if given.picture else []
-    check_outputs([given.directions, given.outlets], [given.out, *lengths.values(), *pictures])
+    lengths = {} if given.lengths is None else {name: f"{given.lengths}_{name}.tif" for name in _LENGTHS}
+    pictures = [] if given.picture is None else [given.picture]
+    outputs = [given.out, *lengths.values(), *pictures]
+    check_outputs([given.directions, given.outlets], outputs)
+    if not all(picture.lower().endswith(".png") for picture in pictures):
+        raise Unready(f"{given.picture} is to be a PNG: give it a name that ends so")
     if pictures:
         needed("matplotlib")
     points = read_points(given.outlets)
     raster = _read(given)
+    check_outputs(raster.files, outputs)
     check_square(given.directions, raster)
     if raster.crs and raster.crs.is_geographic:
         say("warning: the raster is in degrees and so are the lengths: project it first to have them on the ground")

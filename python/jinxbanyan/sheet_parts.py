@@ -76,8 +76,9 @@ def _show(given: argparse.Namespace) -> None:
 
 def _picture(given: argparse.Namespace) -> None:
     check_outputs([given.sheet], [given.out])
+    drawn = picture(_sheet_in(given.sheet), given.edition)
     with whole(given.out) as part:
-        part.write_text(picture(_sheet_in(given.sheet), given.edition), encoding="utf-8")
+        part.write_text(drawn, encoding="utf-8")
 
 
 def _sheet_in(path: str) -> Sheet:

@@ -5,11 +5,12 @@ import re
 import subprocess
 import sys
 import unittest
-from contextlib import redirect_stdout
+from contextlib import redirect_stderr, redirect_stdout
 from io import StringIO
 from textwrap import dedent
 from unittest.mock import patch
 
+from jinxbanyan.command import main
 from jinxbanyan.library import load
 from tests.running import FilesCase, Ran, run
 from tests.samples import ROOT, SAMPLES
@@ -74,6 +75,14 @@ class Command(FilesCase):
             load.cache_clear()
             self.addCleanup(load.cache_clear)
             self.assert_fails(run("show", SAMPLES / "pond.sheet"), 2, "none.so cannot be loaded", "build-library")
+
+    def test_arguments_with_line_ends(self) -> None:
+        self.assert_fails(run("pic\nture"), 2, "invalid choice")
+
+    def test_no_standard_output(self) -> None:
+        with redirect_stderr(StringIO()) as err, patch("sys.stdout", None):
+            self.assertEqual(main(["show", str(SAMPLES / "pond.sheet")]), 2)
+        self.assertEqual(err.getvalue(), "jinxbanyan: there is no standard output\n")
 
     def test_stopped(self) -> None:
         with patch("jinxbanyan.sheet_parts.read_sheet", side_effect=KeyboardInterrupt):

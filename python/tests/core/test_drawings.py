@@ -19,6 +19,7 @@ class Read(unittest.TestCase):
             "e  se\ts sw w\n nw n* ne .~",
             "# ten codes\n\n→ ↘ ↓ ↙ ←\r\n↖ ↑ ↗ . ~\r\noutlet 1 1\n",
             "\ufeff→\ufe0f↘↓↙←\n↖↑*↗.~",
+            "\u27a1\ufe0f↘\ufe0f\u2b07\ufe0f↙\u2b05\n↖\u2b06\ufe0f*↗.\u200b~",
         ):
             with self.subTest(text=text):
                 self.assertEqual(read_drawing(text), EIGHT)
@@ -34,7 +35,8 @@ class Read(unittest.TestCase):
         for text, said in (
             ("→→\n→x", "line 2: x is neither"),
             ("→ SEW", "line 1: SEW is neither a direction nor null nor a pond, and letters of two cells need a space"),
-            ("*→", "line 1: * is neither"),
+            ("→ * →", "line 1: * is neither a direction nor null nor a pond; it stands right after its cell"),
+            ("→\noutlet 0 " + "9" * 5000, "line 2: an outlet is listed as"),
             ("→→\n\n→", "line 3: the number of cells is 1, in the rows above 2"),
             ("→\noutlet 0", "line 2: an outlet is listed as"),
             ("→\noutlet 0 0\n→", "line 3: a row of cells after the list"),

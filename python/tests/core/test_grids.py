@@ -39,8 +39,14 @@ class Grids(Case):
                 self.assertRaises(ValueError, Grid, rows, columns, bytes(count))
 
     def test_codes_that_are_no_bytes(self) -> None:
-        with self.assertRaises(TypeError):
-            Grid(1, 2, 2)  # type: ignore[arg-type]
+        for codes in (2, array("I", [1, 16])):
+            with self.subTest(codes=codes), self.assertRaises(TypeError):
+                Grid(1, 8, codes)  # type: ignore[arg-type]
+
+    def test_sides_that_are_no_whole_numbers(self) -> None:
+        for sides in ((1.0, 1), (1, "1")):
+            with self.subTest(sides=sides), self.assertRaises(TypeError):
+                Grid(*sides, b"\1")  # type: ignore[arg-type]
 
     def test_sides_that_no_number_of_the_library_holds(self) -> None:
         for rows, columns in ((2**64 + 1, 1), (1, 2**32 + 1), (-1, -1)):
@@ -79,6 +85,11 @@ class Numbers(unittest.TestCase):
     """A grid of numbers."""
 
     grid = NumberGrid(2, 3, array("I", [1, 2, 3, 4, 5, 2**32 - 1]))
+
+    def test_numbers_of_another_type(self) -> None:
+        for numbers in (array("H", [1]), array("L", [1]), [1]):
+            with self.subTest(numbers=numbers), self.assertRaises(TypeError):
+                NumberGrid(1, 1, numbers)  # type: ignore[arg-type]
 
     def test_by_cell(self) -> None:
         found = [self.grid[row, column] for row in range(2) for column in range(3)]

@@ -108,6 +108,11 @@ class Calls(unittest.TestCase):
         self.assertEqual(numbers(3), array("I", [0, 0, 0]))
         self.assertEqual(list(results(3)), [0, 0, 0])
 
+    def test_other_types_are_not_handed_over(self) -> None:
+        for other in (array("H", [1]), 1.0, "1", None):
+            with self.subTest(other=other), self.assertRaises(TypeError):
+                call("jb_accumulate", 1, 1, b"\1", other)
+
     def test_written_in_place(self) -> None:
         accumulation = numbers(4)
         accumulation[3] = 9

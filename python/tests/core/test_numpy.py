@@ -4,7 +4,7 @@ import unittest
 import warnings
 from typing import Any
 
-from jinxbanyan import Cell, Grid, Place, accumulate, trace
+from jinxbanyan import Cell, Grid, Place, accumulate, convert, trace
 
 from .helper import Case, grid_of
 
@@ -45,6 +45,19 @@ class Arrays(Case):
         grid = Grid(200, 200, bytes([4]) * 40_000)
         row, column = numpy.array([199, 7], "uint8")
         self.assertEqual(trace(grid, [(row, column)]).outlets[0].starts, (Cell(0, 7),))
+
+    def test_numbers_that_the_library_cannot_hold(self) -> None:
+        self.refused(25, trace, Grid.of(CODES), [(2, 1)], edition=numpy.int64(2**32 + 1))
+        self.refused(24, convert, Grid.of(CODES), numpy.int64(2**32 + 2))
+
+    def test_arrays_of_no_real_numbers(self) -> None:
+        for kind in ("complex64", "U1", "datetime64[s]"):
+            with self.subTest(kind), self.assertRaises(TypeError):
+                Grid.of(numpy.array([[1, 2]]).astype(kind))
+
+    def test_a_grid_is_an_array(self) -> None:
+        self.assertEqual(numpy.asarray(Grid.of(CODES)).tolist(), CODES)
+        self.assertEqual(numpy.asarray(Grid.of(CODES), "int32").dtype, numpy.int32)
 
     def test_numbers_are_not_to_be_changed(self) -> None:
         with self.assertRaises(ValueError):

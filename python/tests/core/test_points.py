@@ -40,6 +40,10 @@ class Tables(FilesCase):
             "1.5,-2,mill\n3,4\n",
             "1.5;-2;mill;more, and more\n3;4;;\n",
             "1.5\t-2\tmill\tmore; and more\n3\t4\n",
+            "x;y;name\n1,5;-2;mill\n3;4,0;\n",
+            "1,5;-2;mill\n3;4\n",
+            '1.5,-2,mill,"more; and more"\n3,4\n',
+            'x, y, name, "depth; at night"\n1.5, -2, "mill"\n3, 4\n',
         ):
             with self.subTest(text=text):
                 self.assertEqual(self.read(text), (Point(1.5, -2, "mill"), Point(3, 4)))
@@ -66,7 +70,8 @@ class Tables(FilesCase):
         self.assert_unfit("x,y\n1,2\n\n1,two\n", "line 4: 'two' is not a number")
         self.assert_unfit("1,2\n1,nan\n", "line 2: 'nan' is not a number")
         self.assert_unfit("1,2\n1e999,1\n", "line 2: '1e999' is not a number")
-        self.assert_unfit("x;y\n1,5;2,5\n", "line 2: '1,5' is not a number")
+        self.assert_unfit("x;y\n1,5;2,5,5\n", "line 2: '2,5,5' is not a number")
+        self.assert_unfit("x,y\n1_000,2\n", "line 2: '1_000' is not a number")
         self.assert_unfit("1,2\n1\n", "line 2: a point has two coordinates")
         self.assert_unfit('1,2,a\n1,2,"b\n1,2,c\n', "line 3: ")
 

@@ -28,6 +28,14 @@ class Cells(Case):
                 self.assertEqual((ran.status, ran.err), (0, ""))
                 self.assertTrue(ran.out.startswith(f"outlet 1 at {row} {column} cells "), ran.out)
 
+    def test_edges_that_are_not_exact_in_decimals(self) -> None:
+        """Tenths are no binary fractions: 0.3 is the western edge of column 3 all the same."""
+        codes = [[1] * 40]
+        raster = self.raster(codes, place=(0.1, 0, 0, 0, -0.1, 0.1))
+        for column in range(40):
+            ran = self.trace(raster, self.points((f"{column // 10}.{column % 10}", 0.05)))
+            self.assertTrue(ran.out.startswith(f"outlet 1 at 0 {column} cells "), ran)
+
     def test_outlets_outside(self) -> None:
         raster = self.raster()
         for x, y, shown in (
@@ -40,7 +48,9 @@ class Cells(Case):
             with self.subTest(x=x, y=y):
                 ran = self.trace(raster, self.points(UPPER, (x, y, "mill")))
                 self.assert_fails(ran, 1, f"outlet 2 (mill) at {shown} is outside the raster")
-                self.assertIn("x from 500000 to 500040 and y from 5199970 to 5200000; --outlets-crs", ran.err)
+                self.assertIn(
+                    "x from 500000 to below 500040 and y from 5200000 to above 5199970; --outlets-crs", ran.err
+                )
         self.assert_fails(self.trace(raster, self.points((0, 0))), 1, "outlet 1 at 0 0 is outside")
 
     def test_outlets_that_the_library_refuses(self) -> None:

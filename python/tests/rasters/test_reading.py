@@ -77,7 +77,9 @@ class Codes(Case):
         outlets = self.points(UPPER)
         self.assert_fails(self.trace(self.cut(self.raster([[1] * 4097])), outlets), 1, "refused 10")
         self.assert_fails(self.trace(self.cut(self.raster([[1]] * 4097)), outlets), 1, "refused 10")
-        self.assert_fails(self.trace(self.cut(self.raster([[1] * 4096])), outlets), 2)
+        self.assert_fails(
+            self.trace(self.cut(self.raster([[1] * 4096])), outlets), 1, "cut.tif cannot be read as a raster"
+        )
 
 
 class Places(Case):
@@ -150,24 +152,26 @@ class Files(Case):
     def test_files_that_cannot_be_read(self) -> None:
         outlets = self.points(UPPER)
         self.assert_fails(self.trace(self.here / "none.tif", outlets), 2, "none.tif")
-        self.assert_fails(self.trace(outlets, self.points(LOWER, name="other.csv")), 2, "outlets.csv")
+        self.assert_fails(self.trace(outlets, self.points(LOWER, name="other.csv")), 1, "outlets.csv cannot be read")
         self.assert_fails(self.trace(self.raster(), self.here / "none.csv"), 2, "none.csv")
-        self.assert_fails(self.trace(self.cut(self.raster()), outlets), 2)
+        self.assert_fails(self.trace(self.cut(self.raster()), outlets), 1, "cut.tif cannot be read")
 
     def test_gdal_and_proj_add_nothing(self) -> None:
         """In a process of its own, since they write past Python's standard error."""
         raster, outlets = self.raster(), self.points(UPPER)
-        for directions, crs in ((self.cut(raster), UTM), (raster, "EPSG:99999999")):
+        for directions, crs, status in ((self.cut(raster), UTM, 1), (raster, "EPSG:99999999", 2)):
             given = ("trace", directions, "--outlets", outlets, "--table", 1, "--out", self.out, "--outlets-crs", crs)
             command = [sys.executable, "-m", "jinxbanyan", *map(str, given)]
             here = Path(__file__).parents[2]
             ran = subprocess.run(command, cwd=here, capture_output=True, text=True, check=False)
-            self.assert_fails(Ran(ran.returncode, ran.stdout, ran.stderr), 2)
+            self.assert_fails(Ran(ran.returncode, ran.stdout, ran.stderr), status)
 
     def test_without_rasterio_the_command_says_what_to_install(self) -> None:
         raster, outlets = self.raster(), self.points(UPPER)
         with patch.dict(sys.modules, {"rasterio": None}):
-            self.assert_fails(self.trace(raster, outlets), 2, "python3-rasterio", "pip install rasterio")
+            self.assert_fails(
+                self.trace(raster, outlets), 2, "python3-rasterio", "pip install rasterio", sys.executable
+            )
 
     def test_the_place_is_kept(self) -> None:
         raster = read_raster(str(self.raster()), 1)

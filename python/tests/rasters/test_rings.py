@@ -82,5 +82,5 @@ class Sheets(Case):
         self.assert_fails(run("rings", SAMPLES / "half.sheet"), 1, "refused 4")
 
     def test_neither_a_sheet_nor_a_raster(self) -> None:
-        self.assert_fails(run("rings", self.points(UPPER), "--table", 1), 2, "outlets.csv")
+        self.assert_fails(run("rings", self.points(UPPER), "--table", 1), 1, "outlets.csv cannot be read")
         self.assert_fails(run("rings", self.here / "none.tif", "--table", 1), 2, "none.tif")

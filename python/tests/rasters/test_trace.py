@@ -3,19 +3,19 @@
 import json
 import shutil
 import subprocess
+import sys
 import unittest
 from math import sqrt
 from unittest.mock import patch
 
 import numpy
 import rasterio  # type: ignore[import]
+from rasterio.shutil import copy  # type: ignore[import]
 
 from jinxbanyan import Grid, accumulate, trace
 from jinxbanyan.outputs import whole
 from tests.running import Ran, run
-from tests.samples import sample_sheets
-
-from tests.samples import SNAIL
+from tests.samples import ROOT, SNAIL, sample_sheets
 
 from .support import LOWER, LOWER_LINE, PLACE, UPPER, UPPER_LINE, UPPER_PATH, UTM, Case
 
@@ -136,9 +136,53 @@ class Outputs(Case):
             self.assert_fails(self.trace(raster, outlets, "--lengths", nowhere), 2, "there is no directory", "none")
             self.assert_fails(self.trace(raster, outlets, "--picture", self.here), 2, "it is not a file")
             self.assert_fails(self.trace(raster, outlets, "--picture", "/dev/null"), 2, "/dev/null", "not a file")
-            self.assert_fails(self.trace(raster, outlets, "--picture", self.out), 2, "is named twice")
-            self.assert_fails(self.trace(raster, outlets, "--picture", raster), 2, "is named twice")
-            self.assert_fails(self.trace(raster, outlets, "--picture", outlets), 2, "is named twice")
+            self.assert_fails(self.trace(raster, outlets, "--picture", self.out), 2, "is to be written twice")
+            self.assert_fails(self.trace(raster, outlets, "--picture", raster), 2, "it is read from")
+            self.assert_fails(self.trace(raster, outlets, "--picture", outlets), 2, "it is read from")
+            self.assert_fails(self.trace(raster, outlets, "--picture", self.here / "p.jpg"), 2, "is to be a PNG")
+
+    def test_a_source_of_the_directions_is_not_written_over(self) -> None:
+        source = self.raster(name="valley_up_straight.tif")
+        copy(source, self.here / "valley.vrt", driver="VRT")
+        before = source.read_bytes()
+        ran = self.trace(self.here / "valley.vrt", self.points(UPPER), "--lengths", self.here / "valley")
+        self.assert_fails(ran, 2, "valley_up_straight.tif cannot be written: it is read from")
+        self.assertEqual(source.read_bytes(), before)
+
+    def test_a_full_disk(self) -> None:
+        """No file may have more than 20,000 bytes: the upstream lengths have more and are not written."""
+        codes = numpy.random.default_rng(1).choice([1, 2, 128], (200, 200))
+        codes[:, -1] = 4
+        raster, outlets = self.raster(codes, "uint8", None), self.points((501995, 5198005))
+        given = (
+            "trace",
+            raster,
+            "--outlets",
+            outlets,
+            "--table",
+            1,
+            "--out",
+            self.out,
+            "--lengths",
+            self.here / "full",
+        )
+        limited = "import resource, signal, sys; signal.signal(signal.SIGXFSZ, signal.SIG_IGN)"
+        limited += "; resource.setrlimit(resource.RLIMIT_FSIZE, (20_000, 20_000))"
+        limited += "; from jinxbanyan.command import main; sys.exit(main(sys.argv[1:]))"
+        command = [sys.executable, "-B", "-c", limited, *map(str, given)]
+        ran = subprocess.run(command, cwd=ROOT / "python", capture_output=True, text=True, check=False)
+        self.assertEqual((ran.returncode, ran.stdout), (2, ""))
+        self.assertIn("full_up_straight.tif cannot be written: File too large", ran.stderr)
+        written = {raster.name, outlets.name, self.out.name, "full_down_straight.tif", "full_down_diagonal.tif"}
+        self.assertEqual({file.name for file in self.here.iterdir()}, written)
+
+    def test_a_coordinate_system_that_geotiff_has_not(self) -> None:
+        turned = "+proj=ob_tran +o_proj=longlat +o_lon_p=0 +o_lat_p=30 +lon_0=10 +ellps=WGS84"
+        raster, outlets = self.raster(crs=turned), self.points(UPPER)
+        ran = self.trace(raster, outlets, "--lengths", self.here / "turned")
+        self.assertEqual(ran.status, 0)
+        self.assertIn("warning: ", ran.err)
+        self.assertEqual([file.name for file in self.here.iterdir() if "part" in file.name], [])
 
     def test_a_file_is_written_whole_or_not_at_all(self) -> None:
         self.out.write_text("before")
