@@ -115,6 +115,8 @@ def read_raster(path: str, table: int) -> Raster:
         transform = (a, b, c, d, e, f)
         crs, files = dataset.crs or None, tuple(dataset.files)
         band = dataset.read(1, masked=True)
+    if band.dtype.kind == "c":
+        raise Unfit(f"{path} has complex numbers in place of codes")
     with on_map(transform):
         grid = convert(Grid.of(band.filled(NULL), table), 1)
     _check_north_up(path, transform)

@@ -149,6 +149,9 @@ class Files(Case):
         ran = self.trace(several, self.points(UPPER))
         self.assert_fails(ran, 1, "two.nc has no band of its own; it holds rasters, such as netcdf:", "two.nc:Band1")
 
+    def test_complex_numbers(self) -> None:
+        self.assert_fails(self.trace(self.raster(dtype="complex64"), self.points(UPPER)), 1, "has complex numbers")
+
     def test_files_that_cannot_be_read(self) -> None:
         outlets = self.points(UPPER)
         self.assert_fails(self.trace(self.here / "none.tif", outlets), 2, "none.tif")
