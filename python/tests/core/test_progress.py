@@ -37,19 +37,19 @@ class Progress(unittest.TestCase):
 
     def test_a_short_stage_is_not_named(self) -> None:
         def short() -> None:
-            with patch.object(progress, "PATIENCE", 0.1):
+            with patch.object(progress, "PATIENCE", 0.5):
                 with progress.stage("reading"):
                     pass
-                Event().wait(0.3)
+                Event().wait(0.7)
 
         self.assertEqual(said(short), "")
 
     def test_a_stage_that_fails_is_not_named_later(self) -> None:
         def failing() -> None:
-            with patch.object(progress, "PATIENCE", 0.1):
+            with patch.object(progress, "PATIENCE", 0.5):
                 with self.assertRaises(KeyError), progress.stage("reading"):
                     raise KeyError
-                Event().wait(0.3)
+                Event().wait(0.7)
 
         self.assertEqual(said(failing), "")
 
