@@ -86,9 +86,12 @@ def _add_rings(parts: "argparse._SubParsersAction[Any]") -> None:
     part.add_argument("--out", metavar="RINGS.geojson", help="write the rings of a raster as closed lines of GeoJSON")
 
 
-def _read(given: argparse.Namespace) -> Raster:
+def _read(given: argparse.Namespace, outputs: Sequence[str]) -> Raster:
+    """The directions, of whose files none is to be written: a virtual raster has others than the one that is named."""
     with stage("reading"):
-        return read_raster(given.directions, given.table)
+        raster = read_raster(given.directions, given.table)
+    check_outputs(raster.files, outputs)
+    return raster
 
 
 def _trace(given: argparse.Namespace) -> None:
@@ -101,8 +104,7 @@ def _trace(given: argparse.Namespace) -> None:
     if pictures:
         needed("matplotlib")
     points = read_points(given.outlets)
-    raster = _read(given)
-    check_outputs(raster.files, outputs)
+    raster = _read(given, outputs)
     check_square(given.directions, raster)
     if raster.crs and raster.crs.is_geographic:
         say("warning: the raster is in degrees and so are the lengths: project it first to have them on the ground")
@@ -155,7 +157,7 @@ def _rings(given: argparse.Namespace) -> None:
         raster = _raster_for_rings(given)
         grid = raster.grid
     found = rings(grid, counter("following cells", grid.rows * grid.columns))
-    if raster and given.out:
+    if raster and given.out is not None:
         with stage("writing rings"):
             write_lines(given.out, raster, (ring_line(*numbered) for numbered in enumerate(found, 1)))
     print(f"rings {len(found)}")
@@ -177,15 +179,16 @@ def _grid_of_sheet(given: argparse.Namespace) -> Grid | None:
         return None
     if given.table not in (None, 1):
         raise Unready(f"{given.directions} is a sheet, and a sheet has table 1")
-    if given.out:
+    if given.out is not None:
         raise Unready(f"{given.directions} is a sheet, which has no place on the map: --out is for rasters")
     return read_sheet(file).grid
 
 
 def _raster_for_rings(given: argparse.Namespace) -> Raster:
-    check_outputs([given.directions], [given.out] if given.out else [])
+    outputs = [] if given.out is None else [given.out]
+    check_outputs([given.directions], outputs)
     if given.table is None:
         raise Unready(
             "a raster needs --table 1, 2 or 3: the tables share codes, so that none can be told from the file"
         )
-    return _read(given)
+    return _read(given, outputs)

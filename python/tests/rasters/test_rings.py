@@ -4,6 +4,8 @@ import json
 import sys
 from unittest.mock import patch
 
+from rasterio.shutil import copy  # type: ignore[import]
+
 from tests.running import Ran, run
 from tests.samples import SAMPLES
 
@@ -57,6 +59,17 @@ class Rings(Case):
 
     def test_a_raster_needs_a_table(self) -> None:
         self.assert_fails(run("rings", self.raster()), 2, "--table")
+
+    def test_a_source_of_the_directions_is_not_written_over(self) -> None:
+        source = self.raster(RING)
+        copy(source, self.here / "ring.vrt", driver="VRT")
+        before = source.read_bytes()
+        ran = run("rings", self.here / "ring.vrt", "--table", 1, "--out", source)
+        self.assert_fails(ran, 2, "directions.tif cannot be written: it is read from")
+        self.assertEqual(source.read_bytes(), before)
+
+    def test_an_output_without_a_name(self) -> None:
+        self.assert_fails(run("rings", self.raster(RING), "--table", 1, "--out", ""), 2, "it is not a file")
 
     def test_an_output_that_cannot_be_written(self) -> None:
         ran = run("rings", self.raster(RING), "--table", 1, "--out", self.here / "none" / "rings.geojson")
