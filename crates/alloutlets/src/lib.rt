@@ -1,4 +1,5 @@
 // All outlets of a list traced in one call: the answer, and the part of the list that shows one outlet's starts.
+#![tactic(auto)]
 ghost use Rattle.std.specs.Prelude.{◌≡◌};
 ghost use Rattle.alloutlets.specs.Part.{part_at, ShowsStarts};
 
@@ -6,7 +7,7 @@ use lists::index_of;
 
 // What became of tracing all outlets: the number of the first check that fails, 0 if none does, and the sums of the
 // cells visited and dropped.
-#[derive(Drop)]
+#[derive(Clone, Copy)]
 pub struct TracedAll {
     pub number: u32,
     pub visited: u32,
@@ -14,7 +15,7 @@ pub struct TracedAll {
 }
 
 // A part of a list: where it begins, and how many places it has. Both are 0 where it is empty.
-#[derive(Drop)]
+#[derive(Clone, Copy)]
 pub struct Part {
     pub begin: usize,
     pub count: usize,

@@ -1,10 +1,11 @@
 // The answer of a tracing, and the same in numbers.
+#![tactic(auto)]
 ghost use Rattle.std.specs.Prelude.{◌≡◌};
 ghost use Rattle.answers.specs.Answers.{in_numbers};
 
 // What became of a tracing. Found: the length of the longest paths and how many there are. NoPlace: the list was too
 // short for them, and how many there are. Refused: the number of another check.
-#[derive(Drop)]
+#[derive(Clone, Copy)]
 pub enum Answer {
     Found {
         straight: u32,
@@ -20,7 +21,7 @@ pub enum Answer {
 }
 
 // The answer, and beside it how many cells were visited and dropped.
-#[derive(Drop)]
+#[derive(Clone, Copy)]
 pub struct Traced {
     pub visited: u32,
     pub dropped: u32,
@@ -29,7 +30,7 @@ pub struct Traced {
 
 // An answer in numbers: 0 where paths are found, 21 where the list was too short, else the number of the refusal; and
 // the values that it has. The others are 0.
-#[derive(Drop)]
+#[derive(Clone, Copy)]
 pub struct Numbers {
     pub number: u32,
     pub straight: u32,

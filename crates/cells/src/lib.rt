@@ -1,12 +1,13 @@
 // A cell by its row and column: the next one, the one that a number names, divided or counted off, and a table of all
 // cells of a grid.
+#![tactic(auto)]
 ghost use Rattle.std.specs.Prelude.{◌*◌, ◌+◌, ◌≤◌, ◌<◌};
 ghost use Rattle.cells.specs.Numbers.{RowAndColumn, TableFits, CellTable};
 
 use lists::index_of;
 
 // A cell of a grid.
-#[derive(Drop)]
+#[derive(Clone, Copy)]
 pub struct Cell {
     pub row: usize,
     pub col: usize,
@@ -46,7 +47,7 @@ pub fn split_number(cols: usize, number: u32) -> Cell
 }
 
 // A cell of a sheet, by its row and column as they are printed.
-#[derive(Drop)]
+#[derive(Clone, Copy)]
 pub struct SheetCell {
     pub row: u32,
     pub col: u32,

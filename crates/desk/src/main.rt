@@ -1,5 +1,6 @@
 // The desk program: a sheet from standard input, its answer to standard output. No sheet has as many bytes as are read,
 // and no answer as many as are lent for it.
+#![tactic(auto)]
 use libc::{STDIN_FILENO, STDOUT_FILENO};
 use report::{TEXT_BYTES, file_place, report};
 

@@ -1,4 +1,5 @@
 // The cell that a cell flows to, by its number: a step adds an offset to the number, and multiplies nothing.
+#![tactic(auto)]
 ghost use Rattle.std.specs.Prelude.{◌≡◌, ◌+◌, ◌≤◌};
 ghost use Rattle.ground.specs.Tables.{table1, dir_of};
 ghost use Rattle.ground.specs.Grid.{grid_of};
@@ -8,7 +9,7 @@ ghost use Rattle.downstream.specs.Flowing.{Numbered, FlowsOn};
 use moves::{Lead, Spot, lead_of, spot_at};
 
 // Where a cell flows: nowhere, or to a cell, by its row, column and number.
-#[derive(Drop)]
+#[derive(Clone, Copy)]
 pub enum Downstream {
     End,
     To { row: usize, col: usize, at: usize },

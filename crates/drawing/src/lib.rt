@@ -1,4 +1,5 @@
 // Drawing one flow path: the cells of a walk, from its start to its outlet.
+#![tactic(auto)]
 ghost use Rattle.std.specs.Prelude.{◌≡◌, ◌<◌, ◌^◌, length};
 ghost use Rattle.lists.specs.Slices.{overlaid};
 ghost use Rattle.ground.specs.Grid.{grid_of};
@@ -12,7 +13,7 @@ use flowpath::{path_length, walk_from};
 use moves::Walk;
 
 // What drawing answers: the number, and how many of the lent places hold the path. The count is 0 on refusal.
-#[derive(Drop)]
+#[derive(Clone, Copy)]
 pub struct Drawn {
     pub number: u32,
     pub count: usize,

@@ -1,5 +1,6 @@
 // The edge of recursion: 4,096 cells and 4,097, by recursion and from pending cells, by either edition, without and
 // with dropping. Then drawing: the part that is handed back, and what every lent place holds afterwards.
+#![tactic(auto)]
 use accumulation::accumulate;
 use answers::{Answer, Traced};
 use drawing::{draw, drawing_number};

@@ -1,1 +1,2 @@
 // What holds of all entries together: definitions and laws alone, no code.
+#![tactic(auto)]

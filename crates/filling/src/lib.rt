@@ -4,6 +4,7 @@
 // inflows are not yet passed down, and `partial` is 1 and the sum of those that are. A cell is done that is passed
 // down, or null and looked at. Some parameters serve the contracts alone: `outlets` in all that look and go down, since
 // the flags tell the outlets, and `looked` and `done` of a step.
+#![tactic(auto)]
 ghost use Rattle.std.specs.Prelude.{◌+◌, ◌*◌, ◌≤◌, ◌<◌, length};
 ghost use Rattle.lists.specs.Slices.{Kept, Within};
 ghost use Rattle.ground.specs.Grid.{grid_of};

@@ -1,6 +1,7 @@
 // Flow lengths: of every cell of a subwatershed, downstream to its outlet and upstream to the farthest cell above it,
 // in no memory but the four grids. Below the entry, ds and dd are the grids of straight and diagonal steps downstream,
 // us and ud those upstream.
+#![tactic(auto)]
 ghost use Rattle.std.specs.Prelude.{◌≡◌};
 ghost use Rattle.ground.specs.Grid.{grid_of};
 ghost use Rattle.answers.specs.Entries.{catchment};

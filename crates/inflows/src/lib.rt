@@ -1,4 +1,5 @@
 // The inflow record of a cell: what its neighbours have that flow in.
+#![tactic(auto)]
 ghost use Rattle.std.specs.Prelude.{◌≡◌, ◌*◌, ◌+◌};
 ghost use Rattle.lists.specs.Lists.{sum_of};
 ghost use Rattle.ground.specs.Grid.{grid_of, inflow_record};
@@ -8,7 +9,7 @@ use lists::wide;
 use moves::{Spot, inflow_from, neighbour_at};
 
 // The accumulations of the neighbours that flow in, in neighbour order; 0 where one does not.
-#[derive(Drop)]
+#[derive(Clone, Copy)]
 pub struct Inflows {
     pub values: [u32; 8],
 }
@@ -37,7 +38,7 @@ fn inflow_at(
 }
 
 // A neighbour of an inner cell: its number, and whether it flows in.
-#[derive(Drop)]
+#[derive(Clone, Copy)]
 pub struct Beside {
     pub at: usize,
     pub flows: bool,

@@ -78,14 +78,30 @@ abbrev diagonals : Step → ℕ
 diagonals Straight = 0
 diagonals Diagonal = 1
 
-pub squares_stand : StandsFor 2 square_cells (λ l. l.straight) (λ l. l.diagonal) straights diagonals
+adds_straights : (l : Length) (s : Step) → (square_cells.◌▹◌ l s).straight ≡ l.straight + straights s
+adds_straights l Straight = refl
+adds_straights l Diagonal = sym (add-zero l.straight)
+
+adds_diagonals : (l : Length) (s : Step) → (square_cells.◌▹◌ l s).diagonal ≡ l.diagonal + diagonals s
+adds_diagonals l Straight = sym (add-zero l.diagonal)
+adds_diagonals l Diagonal = refl
+
+some_step : (s : Step) → 0 < straights s + 2 * diagonals s
+some_step Straight = omega arith
+some_step Diagonal = omega arith
+
+no_longer_step : (s : Step) → surd_less 2 0 1 (straights s) (diagonals s) ≡ false
 unfolding surd_less square_sum
+no_longer_step Straight = refl
+no_longer_step Diagonal = refl
+
+pub squares_stand : StandsFor 2 square_cells (λ l. l.straight) (λ l. l.diagonal) straights diagonals
 squares_stand = record {
   compares = shorter_is;
-  adds_p = λ l s. elim s [ Straight ↦ refl | Diagonal ↦ sym (add-zero l.straight) ];
-  adds_q = λ l s. elim s [ Straight ↦ sym (add-zero l.diagonal) | Diagonal ↦ refl ];
-  positive = λ s. elim s [ Straight ↦ omega arith | Diagonal ↦ omega arith ];
-  longest = λ s. elim s [ Straight ↦ refl | Diagonal ↦ refl ];
+  adds_p = adds_straights;
+  adds_q = adds_diagonals;
+  positive = some_step;
+  longest = no_longer_step;
 }
 
 pub square_laws : LengthLaws square_cells

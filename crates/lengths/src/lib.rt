@@ -1,4 +1,5 @@
 // Lengths of walks, a + b√2 cell sides, compared exactly by their counts of steps.
+#![tactic(auto)]
 ghost use Rattle.std.specs.Prelude.{◌≡◌, ◌-◌, ◌*◌, ◌≤◌, ◌<◌, ◌^◌, ltb};
 ghost use Rattle.lengths.specs.Rule.{compared, counts, plus_step, sign_of};
 ghost use Rattle.lengths.specs.Lengths.{square_cells, farthest};
@@ -6,21 +7,21 @@ ghost use Rattle.lengths.specs.Lengths.{square_cells, farthest};
 use lists::wide;
 
 // One step of a walk.
-#[derive(Drop)]
+#[derive(Clone, Copy)]
 pub enum Step {
     Straight,
     Diagonal,
 }
 
 // The straight and the diagonal steps of a walk.
-#[derive(Drop)]
+#[derive(Clone, Copy)]
 pub struct Length {
     pub straight: u32,
     pub diagonal: u32,
 }
 
 // How one length stands to another.
-#[derive(Drop)]
+#[derive(Clone, Copy)]
 pub enum Order {
     Shorter,
     Same,

@@ -1,4 +1,5 @@
 // The desk's lines, put as bytes into a lent slice from a place on. What finds no room is left out.
+#![tactic(auto)]
 ghost use Rattle.std.specs.Prelude.{[], ◌∷◌};
 ghost use Rattle.lines.specs.Line.{decimal, labelled, catchment_line, outlet_line, path_line, refused_line};
 ghost use Rattle.lines.specs.Appending.{Appends};
@@ -76,7 +77,7 @@ pub fn put_path(text: &mut [u8], at: usize, row: u32, col: u32) -> usize
 
 // What the line of an outlet says: its place counted from 1, its row and column, the cells of its subwatershed, the
 // steps of its longest paths, how many these are, and how many cells the search visited and dropped.
-#[derive(Drop)]
+#[derive(Clone, Copy)]
 pub struct OutletLine {
     pub place: u32,
     pub row: u32,

@@ -1,5 +1,6 @@
 // Steps over the ground: the step of each code, the cell that a cell flows to, the walk, and the neighbours that flow
 // in.
+#![tactic(auto)]
 ghost use Rattle.std.specs.Prelude.{◌≡◌, ◌*◌, ◌+◌, ◌<◌, get_or};
 ghost use Rattle.ground.specs.Grid.{grid_of};
 ghost use Rattle.moves.specs.Lent.{OnCell};
@@ -11,7 +12,7 @@ use lengths::{Length, Step};
 
 // A step: the change of row and of column, each plus one so that no number is negative, and whether it is straight or
 // diagonal.
-#[derive(Drop)]
+#[derive(Clone, Copy)]
 pub struct Move {
     pub row: usize,
     pub col: usize,
@@ -19,7 +20,7 @@ pub struct Move {
 }
 
 // Where a code leads.
-#[derive(Drop)]
+#[derive(Clone, Copy)]
 pub enum Lead {
     Nowhere,
     By(Move),
@@ -64,7 +65,7 @@ pub fn step_of(code: u8) -> Step
 }
 
 // A cell of the grid by its row and column, or none.
-#[derive(Drop)]
+#[derive(Clone, Copy)]
 pub enum Spot {
     Off,
     On { row: usize, col: usize },
@@ -112,7 +113,7 @@ fn flows_by(rows: usize, cols: usize, codes: &[u8], row: usize, col: usize, by: 
 }
 
 // A walk: the cell where it is, and the length that it has come.
-#[derive(Drop)]
+#[derive(Clone, Copy)]
 pub struct Walk {
     pub row: usize,
     pub col: usize,
@@ -146,7 +147,7 @@ impl Walk {
 }
 
 // A neighbour: the change of row and of column, each plus one, and the code that points back at the cell.
-#[derive(Drop)]
+#[derive(Clone, Copy)]
 pub struct Neighbour {
     pub row: usize,
     pub col: usize,

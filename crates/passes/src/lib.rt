@@ -1,5 +1,6 @@
 // The two passes over the outlets of a list, in a grid that is ready for their searches: the first counts, the second
 // lists.
+#![tactic(auto)]
 ghost use Rattle.std.specs.Prelude.{◌≤◌, ◌^◌, length};
 ghost use Rattle.lists.specs.Lists.{sum_of};
 ghost use Rattle.ground.specs.Grid.{grid_of};
@@ -10,7 +11,7 @@ use lists::index_of;
 use tracing::{list_at, search_at};
 
 // The longest paths, the cells visited and the cells dropped, over the outlets searched.
-#[derive(Drop)]
+#[derive(Clone, Copy)]
 pub struct Sums {
     pub paths: u32,
     pub visited: u32,

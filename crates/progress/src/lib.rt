@@ -1,4 +1,5 @@
 // How far a search has come: the starts it has met, and what it has visited and dropped. Both engines use it.
+#![tactic(auto)]
 ghost use Rattle.std.specs.Prelude.{◌≡◌, ◌&&◌, ◌+◌, ◌-◌, ◌≤◌, ◌<◌, ◌^◌, length, set};
 ghost use Rattle.lengths.specs.Lengths.{square_cells, farthest};
 ghost use Rattle.progress.specs.Starts.{progress_of, begun, is_below, Room, Met, Visited};
@@ -8,7 +9,7 @@ use lists::index_of;
 
 // The greatest length met and how many starts have it, the cells visited and the cells dropped. The starts themselves
 // stand in a slice, before an end: the first next to it, the others further down.
-#[derive(Drop)]
+#[derive(Clone, Copy)]
 pub struct Progress {
     pub greatest: Length,
     pub paths: u32,

@@ -1,4 +1,5 @@
 // Reading a sheet, byte for byte (01, Sheet and desk).
+#![tactic(auto)]
 ghost use Rattle.std.specs.Prelude.{◌≡◌, ◌+◌, ◌*◌, ◌≤◌, ◌<◌, length, drop};
 ghost use Rattle.std.proofs.lemmas.List.Edits.{sets};
 ghost use Rattle.spelling.specs.Format.{mark};
@@ -10,13 +11,13 @@ use spelling::{Sheet, are_sheet_sides};
 use tables::all_ours;
 
 // A place in a file, in bytes from its start.
-#[derive(Drop)]
+#[derive(Clone, Copy)]
 struct Cursor {
     at: usize,
 }
 
 // What stands where a row should: a row, with the place after it, or the number of the check that fails.
-#[derive(Drop)]
+#[derive(Clone, Copy)]
 enum Step {
     Next { next: Cursor },
     Refused { number: u32 },
@@ -24,7 +25,7 @@ enum Step {
 
 // What stands after the rows: an outlet, with the place after it, the end of the file, or the number of the check that
 // fails.
-#[derive(Drop)]
+#[derive(Clone, Copy)]
 enum Found {
     Outlet { next: Cursor },
     End,
@@ -32,7 +33,7 @@ enum Found {
 }
 
 // What all records after the rows come to: so many outlets, or the number of the check that fails.
-#[derive(Drop)]
+#[derive(Clone, Copy)]
 enum Tail {
     Outlets { count: u32 },
     Refused { number: u32 },

@@ -1,4 +1,5 @@
 // The search by recursion: tracing a cell and tracing its inflows, each calling the other.
+#![tactic(auto)]
 ghost use Rattle.std.specs.Prelude.{◌≡◌, ◌+◌, ◌*◌, ◌≤◌, ◌<◌, ◌^◌, length};
 ghost use Rattle.upstream.specs.Ready.{Ready, OnGround, cells_at, met_in};
 ghost use Rattle.recursion.specs.Tracing.{turn_at, TurnReady, NextTurn, VisitedAt, Traced};
@@ -12,7 +13,7 @@ use upstream::{is_inner, step_at, tributary};
 
 // Where the search turns to next: neighbour k, at a row and a column, with so many cells, and its step down. No
 // neighbour is left where k is 8.
-#[derive(Drop)]
+#[derive(Clone, Copy)]
 pub struct Turn {
     pub k: usize,
     pub row: usize,

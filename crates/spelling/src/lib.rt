@@ -1,10 +1,11 @@
 // What reading and writing a sheet hand back, and the check that both make.
+#![tactic(auto)]
 ghost use Rattle.std.specs.Prelude.{◌≡◌};
 ghost use Rattle.spelling.specs.Reading.{is_sheet_side, are_sheet_sides};
 
 // Of a sheet that was read: the number of the first check that fails, or 0; rows, columns and how many outlets there
 // are, all 0 on refusal.
-#[derive(Drop)]
+#[derive(Clone, Copy)]
 pub struct Sheet {
     pub number: u32,
     pub rows: u32,
@@ -13,7 +14,7 @@ pub struct Sheet {
 }
 
 // Of a sheet that was written: the number, and the length of the file in bytes, 0 on refusal.
-#[derive(Drop)]
+#[derive(Clone, Copy)]
 pub struct Written {
     pub number: u32,
     pub length: u32,

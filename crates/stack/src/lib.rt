@@ -1,4 +1,5 @@
 // The search from pending cells, which stand at the front of the lent working space.
+#![tactic(auto)]
 ghost use Rattle.std.specs.Prelude.{◌≡◌, true, [], ◌∷◌, map, ◌+◌, ◌*◌, ◌≤◌, ◌<◌, length};
 ghost use Rattle.lists.specs.Lists.{sum_of};
 ghost use Rattle.search.specs.Tracing.{numbers_each};
@@ -21,7 +22,7 @@ use upstream::{is_inner, step_at, tributary};
 pub const NUMBERS_EACH: usize = 3;
 
 // A cell that waits, and its length.
-#[derive(Drop)]
+#[derive(Clone, Copy)]
 pub struct Pending {
     pub row: usize,
     pub col: usize,
@@ -29,7 +30,7 @@ pub struct Pending {
 }
 
 // How far the search has come, and how many cells are pending.
-#[derive(Drop)]
+#[derive(Clone, Copy)]
 pub struct Stack {
     pub progress: Progress,
     pub top: usize,

@@ -1,4 +1,5 @@
 // Tracing all longest paths to an outlet of a list.
+#![tactic(auto)]
 ghost use Rattle.std.specs.Prelude.{◌≡◌, ◌*◌, ◌≤◌, length, get_or};
 ghost use Rattle.search.specs.Tracing.{numbers_each};
 ghost use Rattle.ground.specs.Grid.{grid_of};
@@ -203,7 +204,7 @@ fn by_stack(
 }
 
 // The first of 10 to 18 that fails, and else, once the grid is filled, the cells of the chosen subwatershed.
-#[derive(Drop)]
+#[derive(Clone, Copy)]
 pub struct Prepared {
     pub number: u32,
     pub cells: u32,

@@ -1,5 +1,6 @@
 // Through subwatersheds without a stack: up to one tributary after another, and when none is left down by the code, to
 // the tributary after the one that one came from. The marks tell where not to go.
+#![tactic(auto)]
 ghost use Rattle.std.specs.Prelude.{◌<◌};
 ghost use Rattle.ground.specs.Grid.{grid_of};
 ghost use Rattle.traversal.specs.Turns.{OnPosition, Turning, InnerTurning, NextTurn};
@@ -12,7 +13,7 @@ use moves::{Spot, inflow_from, neighbour_at};
 pub const MARK: u32 = 2147483648;
 
 // A cell, by its row, column and number, and the first of its neighbours that are still to be turned to.
-#[derive(Drop)]
+#[derive(Clone, Copy)]
 pub struct Position {
     pub row: usize,
     pub col: usize,

@@ -1,4 +1,5 @@
 // Writing a sheet, byte for byte (01, Sheet and desk).
+#![tactic(auto)]
 ghost use Rattle.std.specs.Prelude.{◌≡◌, List, [], ◌∷◌, ◌++◌, ℕ, ◌+◌, ◌*◌, ◌≤◌, ◌<◌, length, get_or, ltb};
 ghost use Rattle.std.proofs.lemmas.List.Edits.{sets};
 ghost use Rattle.answers.specs.Checks.{first_failed, all_pass};
@@ -13,7 +14,7 @@ use spelling::{Written, are_sheet_sides};
 use tables::all_ours;
 
 // A place in a file, in bytes from its start.
-#[derive(Drop)]
+#[derive(Clone, Copy)]
 struct Cursor {
     at: usize,
 }

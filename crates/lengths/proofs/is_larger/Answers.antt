@@ -4,8 +4,7 @@ use Prim.Native.Nat.{ℕ, ◌*◌, ◌<◌, ◌≤◌, ◌^◌}
 use native.Mathlib.Nat.{mul-le-mul}
 use native.Mathlib.Omega.{arith}
 use Rattle.lengths.proofs.Surds.{half_square}
-use Rattle.lengths.proofs.is_larger.Statement.{statement}
-use Rattle.lengths.proofs.is_larger.Tie as tie
+use Rattle.lengths.proofs.is_larger.Goals as goal
 
 -- the square of a number of 32 bits fits 64
 square_fits : (x : ℕ) → x < 2 ^ 32 → x * x < 2 ^ 64
@@ -14,14 +13,11 @@ square_fits x h = omega (arith, mul-le-mul {n₂ = 4294967295} {m₂ = 429496729
     below : x ≤ 4294967295
     below = omega arith
 
-mul_result : tie.Need-overflow-mul-result
-mul_result c = omega (arith, square_fits c.args.q c.requires.1)
+pub overflow_mul-result : goal.overflow_mul-result
+overflow_mul-result c = omega (arith, square_fits c.args.q c.requires.1)
 
-mul_result_2 : tie.Need-overflow-mul-result-2
-mul_result_2 c = omega (arith, square_fits c.args.p c.requires.0)
+pub overflow_mul-result-2 : goal.overflow_mul-result-2
+overflow_mul-result-2 c = omega (arith, square_fits c.args.p c.requires.0)
 
-returns : tie.Need-returns
+pub returns : goal.returns
 returns c = half_square c.args.p c.args.q c.requires.2
-
-pub is_larger_spec : {M : Type 1} → statement M
-is_larger_spec = tie.close (tie.spec mul_result mul_result_2 returns)

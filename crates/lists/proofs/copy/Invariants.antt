@@ -1,0 +1,18 @@
+-- `lists::copy` meets its contract. The loop's invariant: storing the rest stores all.
+-- Assumes nothing.
+use mathlib.Core.Path.{◌≡◌, refl, sym, ◌∙◌}
+use Prim.Native.Nat.{◌+◌, ◌-◌, ◌≤◌}
+use native.Mathlib.Nat.{add-zero}
+use native.Mathlib.Omega.{arith}
+use lib.ListN.{length, drop, length-set}
+use lib.Seq.{sets}
+use Rattle.lists.proofs.Overlaid.{copy_next, copied}
+use borrow.Author.Rules.{rules}
+use Rattle.lists.proofs.copy.Given as goal
+
+abbrev pub invariant-loop-i : goal.invariant-loop-i
+invariant-loop-i l =
+    (l.i ≤ length l.from) × (length l.to ≡ length l.initial.to) × (sets l.initial.to l.place l.from ≡ sets l.to (l.place + l.i) (drop l.i l.from))
+
+abbrev pub decreases-loop-i : goal.decreases-loop-i
+decreases-loop-i l = length l.from - l.i

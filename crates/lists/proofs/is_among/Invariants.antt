@@ -1,0 +1,15 @@
+-- `lists::is_among` meets its contract. The loop's invariant: what is left from k on decides.
+-- Assumes nothing.
+use mathlib.Core.Path.{◌≡◌, refl, sym, ◌∙◌}
+use Prim.Native.Nat.{◌-◌}
+use borrow.Author.Rules.{rules}
+use lib.ListN.{length, drop}
+use Rattle.lists.specs.Lists.{member}
+use Rattle.lists.proofs.Members.{member_ends, member_found, member_goes_on}
+use Rattle.lists.proofs.is_among.Given as goal
+
+abbrev pub invariant-loop-k : goal.invariant-loop-k
+invariant-loop-k l = member l.x (drop l.from l.list) ≡ member l.x (drop l.k l.list)
+
+abbrev pub decreases-loop-k : goal.decreases-loop-k
+decreases-loop-k l = length l.list - l.k
