@@ -39,8 +39,8 @@ module _ (g : Grid) (to : Table) (new : List ℕ) (has_codes : cell_count g ≤ 
   h = grid_in to g.rows g.cols new
 
   -- the code of any cell, on the grid or beyond it
-  is_code : (x : ℕ) → is_code g.table (code_at g x) ≡ true
-  is_code x = elim (dec_lt x (cell_count g)) [
+  coded : (x : ℕ) → is_code g.table (code_at g x) ≡ true
+  coded x = elim (dec_lt x (cell_count g)) [
     | yes i ↦ ap (is_code g.table) (code_inside g x i) ∙ are_codes x i
     | no i ↦ ap (is_code g.table) (code_outside g x (omega arith)) ∙ undirected_code g.table 0 (inl refl)
   ]
@@ -56,10 +56,10 @@ module _ (g : Grid) (to : Table) (new : List ℕ) (has_codes : cell_count g ≤ 
           ∙ ap (recoded g.table to) (sym (code_outside g x i))
 
   same_direction : (x : ℕ) → flow h x ≡ flow g x
-  same_direction x = ap (dir_of to) (code_is x) ∙ recoded_dir_of g.table to (code_at g x) (is_code x)
+  same_direction x = ap (dir_of to) (code_is x) ∙ recoded_dir_of g.table to (code_at g x) (coded x)
 
   kept : (x u : ℕ) → In u undirected → eqb (code_at h x) u ≡ eqb (code_at g x) u
-  kept x u i = ap (λ (c : ℕ). eqb c u) (code_is x) ∙ recoded_kept g.table to (code_at g x) (is_code x) u i
+  kept x u i = ap (λ (c : ℕ). eqb c u) (code_is x) ∙ recoded_kept g.table to (code_at g x) (coded x) u i
 
   same_ground : (x : ℕ) → ground h x ≡ ground g x
   same_ground x = ap not (kept x 0 (inl refl))

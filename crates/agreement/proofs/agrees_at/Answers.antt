@@ -1,0 +1,54 @@
+-- `agreement::agrees_at` meets its contract: a null cell has 0, any other 1 more than the sum of its inflow record.
+-- Assumes nothing.
+use mathlib.Core.Path.{◌≡◌, ◌∙◌}
+use Prim.Native.Nat.{◌+◌, ◌*◌}
+use native.Mathlib.Omega.{arith}
+use borrow.Author.Rules.{rules}
+use Rattle.lists.specs.Lists.{sum_of}
+use Rattle.ground.specs.Grid.{grid_of, inflow_record}
+use Rattle.agreement.proofs.Cells.{null_agrees, ground_agrees, inside}
+use Rattle.agreement.proofs.Sums.{record_small}
+use Rattle.agreement.proofs.agrees_at.Goals as goal
+
+pub overflow_mul-at : goal.overflow_mul-at
+overflow_mul-at c = omega (arith, inside c.requires)
+
+pub overflow_add-at : goal.overflow_add-at
+overflow_add-at c = omega (arith, inside c.requires)
+
+pub offset_bounds-accumulation-at : goal.offset_bounds-accumulation-at
+offset_bounds-accumulation-at c = omega (arith, inside c.requires)
+
+pub bounds-accumulation-at : goal.bounds-accumulation-at
+bounds-accumulation-at c = omega (arith, inside c.requires)
+
+pub bounds-codes-at : goal.bounds-codes-at
+bounds-codes-at c = omega (arith, inside c.requires)
+
+pub returns-then-codes-at-eq0 : goal.returns-then-codes-at-eq0
+returns-then-codes-at-eq0 c =
+    null_agrees _ _ (inside c.requires).0 c.args.accumulation.now c.wide-value.ensures.0
+    c.if-codes-at-eq0.true
+
+-- what was added up is the record's sum
+sum_is : (c : goal.After-sum-sum) → let a = c.args in
+    c.sum-sum.result
+    ≡ sum_of (inflow_record (grid_of a.rows a.cols a.codes.now) a.accumulation.now
+    (a.row * a.cols + a.col))
+sum_is c = c.sum-sum.ensures ∙ rw c.inflows_of.ensures
+
+pub overflow_add-result : goal.overflow_add-result
+overflow_add-result c =
+    omega (
+      arith,
+      sum_is c,
+      record_small (grid_of c.args.rows c.args.cols c.args.codes.now) c.args.accumulation.now
+          (λ y. omega (arith, c.shared_slice_known-2-1.given y))
+          (c.args.row * c.args.cols + c.args.col),
+    )
+
+pub returns : goal.returns
+returns c =
+    ground_agrees _ _ (inside c.requires).0 c.args.accumulation.now
+    c.wide-value.ensures.0
+    (sum_is c) c.if-codes-at-eq0.false

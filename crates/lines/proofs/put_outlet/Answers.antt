@@ -1,0 +1,29 @@
+-- `lines::put_outlet` meets its contract.
+-- Assumes nothing.
+use mathlib.Core.Path.{◌∙◌}
+use Rattle.lines.specs.Line.{outlet_line}
+use Rattle.lines.proofs.Appending.{appends_both}
+use borrow.Author.Rules.{rules}
+use Rattle.lines.proofs.put_outlet.Goals as goal
+
+pub shape_of-text : goal.shape_of-text
+shape_of-text c =
+    c.put_word.auto.0
+    ∙ c.put_labelled-i.auto.0
+    ∙ c.put_labelled-h.auto.0
+    ∙ c.put_labelled-g.auto.0
+    ∙ c.put_labelled-f.auto.0
+    ∙ c.put_labelled-e.auto.0
+    ∙ c.put_labelled-d.auto.0
+    ∙ c.put_labelled-c.auto.0
+    ∙ c.put_labelled-b.auto.0
+    ∙ c.put_labelled-a.auto.0
+
+pub returns : goal.returns
+unfolding outlet_line
+returns c =
+    appends_both c.put_labelled-a.ensures (appends_both c.put_labelled-b.ensures
+    (appends_both c.put_labelled-c.ensures (appends_both c.put_labelled-d.ensures
+    (appends_both c.put_labelled-e.ensures (appends_both c.put_labelled-f.ensures
+    (appends_both c.put_labelled-g.ensures (appends_both c.put_labelled-h.ensures
+    (appends_both c.put_labelled-i.ensures c.put_word.ensures))))))))
