@@ -26,7 +26,7 @@ returns c =
     let e = c.part_at-part.ensures in
     record {
       holds = part_is a.starts.now a.counts.now a.choice e;
-      begins = λ h. ap (λ (n : ℕ). (a.starts.ptr.0, n)) (omega (
+      begins = λ h. ap (λ (n : ℕ). (a.starts.ref_ptr.0, n)) (omega (
         arith,
         part_begins a.starts.now a.counts.now a.choice e
             (part_some a.starts.now a.counts.now a.choice e h),

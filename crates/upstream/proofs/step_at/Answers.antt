@@ -5,8 +5,7 @@ use Prim.Native.Nat.{ℕ, zero, suc}
 use Rattle.lengths.specs.declared.Step.TheVariants.{Diagonal}
 use Rattle.ground.specs.Compass.{opposite, step_of}
 use Rattle.moves.specs.Moves.{dir_at}
-use Rattle.upstream.proofs.step_at.Statement.{statement}
-use Rattle.upstream.proofs.step_at.Tie as tie
+use Rattle.upstream.proofs.step_at.Goals as goal
 
 diagonal : (k : ℕ) → (k ≡ 0 → ⊥) → (k ≡ 2 → ⊥) → (k ≡ 4 → ⊥) → (k ≡ 6 → ⊥) → Diagonal ≡ step_of (opposite (dir_at k))
 diagonal zero a b c d = absurd (a refl)
@@ -19,20 +18,17 @@ diagonal (suc (suc (suc (suc (suc (suc zero)))))) a b c d = absurd (d refl)
 diagonal (suc (suc (suc (suc (suc (suc (suc zero))))))) a b c d = refl
 diagonal (suc (suc (suc (suc (suc (suc (suc (suc k)))))))) a b c d = refl
 
-returns : tie.Need-returns
-returns c = rw c.match.keys1
+pub returns-in-0 : goal.returns-in-0
+returns-in-0 c = rw c.in-0.is
 
-returns_2 : tie.Need-returns-2
-returns_2 c = rw c.match.keys2
+pub returns-in-2 : goal.returns-in-2
+returns-in-2 c = rw c.in-2.is
 
-returns_3 : tie.Need-returns-3
-returns_3 c = rw c.match.keys3
+pub returns-in-4 : goal.returns-in-4
+returns-in-4 c = rw c.in-4.is
 
-returns_4 : tie.Need-returns-4
-returns_4 c = rw c.match.keys4
+pub returns-in-6 : goal.returns-in-6
+returns-in-6 c = rw c.in-6.is
 
-returns_5 : tie.Need-returns-5
-returns_5 c = let r = c.match.rest in diagonal _ r.0.0.0.1 r.0.0.1 r.0.1 r.1
-
-pub step_at_spec : {M : Type 1} → statement M
-step_at_spec = tie.close (tie.spec returns returns_2 returns_3 returns_4 returns_5)
+pub returns-in_default : goal.returns-in_default
+returns-in_default c = let r = c.in_default.in_default-own.rest in diagonal _ r.0.0.0.1 r.0.0.1 r.0.1 r.1

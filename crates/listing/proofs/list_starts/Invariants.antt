@@ -1,0 +1,16 @@
+-- `listing::list_starts` meets its contract. The invariant: the first k places hold the first k starts.
+-- Assumes nothing.
+use mathlib.Core.Path.{◌≡◌, subst}
+use mathlib.Core.Logic.{◌⊎◌}
+use Prim.Native.Nat.{ℕ, ◌-◌, ◌≤◌, ◌<◌}
+use native.Mathlib.Omega.{arith}
+use borrow.Author.Rules.{rules}
+use lib.ListN.{length}
+use Rattle.listing.proofs.Listing.{Listing, listing_none, listing_more, listed}
+use Rattle.listing.proofs.list_starts.Given as goal
+
+abbrev pub invariant-loop-k : goal.invariant-loop-k
+invariant-loop-k l = (l.k ≤ l.n) × Listing l.found l.end l.k l.initial.starts l.starts
+
+abbrev pub decreases-loop-k : goal.decreases-loop-k
+decreases-loop-k l = l.n - l.k

@@ -1,0 +1,7 @@
+-- `progress::begin` meets its contract.
+-- Assumes nothing.
+use borrow.Author.Rules.{rules}
+use Rattle.progress.proofs.begin.Goals as goal
+
+pub returns : goal.returns
+returns c = rw c.none.ensures

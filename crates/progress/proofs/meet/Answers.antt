@@ -1,0 +1,58 @@
+-- `progress::meet` meets its contract: each return is one case of a length met.
+-- Assumes nothing.
+use mathlib.Core.Path.{sym, ◌∙◌}
+use Rattle.progress.specs.Starts.{kept}
+use Rattle.progress.proofs.Kept.{
+  met_shorter,
+  met_longer,
+  met_same,
+  restarted,
+  forgotten,
+  joined,
+  first_met,
+  some_kept,
+}
+use borrow.Author.Rules.{rules}
+use Rattle.progress.proofs.meet.Goals as goal
+
+pub returns-then-p-eq0 : goal.returns-then-p-eq0
+returns-then-p-eq0 c =
+    let a = c.args in
+    let r = c.restart in
+    restarted a.work.now a.end a.cell a.len a.p c.requires.one_more c.requires.within r.result
+    r.new.work r.ensures.0 r.ensures.1
+    (first_met a.work.now a.end a.cell a.len a.p c.requires.one_more c.requires.within
+    c.if-p-eq0.true)
+
+pub returns-in-Shorter : goal.returns-in-Shorter
+returns-in-Shorter c =
+    let a = c.args in
+    forgotten a.work.now a.end a.cell a.len a.p c.requires.one_more c.requires.within
+    (met_shorter a.p.greatest (kept a.work.now a.end a.p.paths)
+    (some_kept a.work.now a.end a.cell a.len a.p c.requires.one_more c.requires.within
+    c.if-p-eq0.false) a.len a.cell
+    (sym c.compare.ensures ∙ c.in-Shorter.is))
+
+pub returns-in-Longer : goal.returns-in-Longer
+returns-in-Longer c =
+    let a = c.args in
+    let r = c.restart-in-Longer in
+    restarted a.work.now a.end a.cell a.len a.p c.requires.one_more c.requires.within r.result
+    r.new.work r.ensures.0 r.ensures.1
+    (met_longer a.p.greatest (kept a.work.now a.end a.p.paths)
+    (some_kept a.work.now a.end a.cell a.len a.p c.requires.one_more c.requires.within
+    c.if-p-eq0.false) a.len a.cell
+    (sym c.compare.ensures
+    ∙ c.in-Longer.is))
+
+pub returns-in-Same : goal.returns-in-Same
+returns-in-Same c =
+    let a = c.args in
+    let r = c.join in
+    joined a.work.now a.end a.cell a.len a.p c.requires.one_more c.requires.within r.result
+    r.new.work r.ensures.0 r.ensures.1
+    (met_same a.p.greatest (kept a.work.now a.end a.p.paths)
+    (some_kept a.work.now a.end a.cell a.len a.p c.requires.one_more c.requires.within
+    c.if-p-eq0.false) a.len a.cell
+    (sym c.compare.ensures
+    ∙ c.in-Same.is))

@@ -1,0 +1,7 @@
+-- `upstream::inflow` meets its contract, whether the cell is known as an inner one or not.
+-- Assumes nothing.
+use borrow.Author.Rules.{rules}
+use Rattle.upstream.proofs.inflow.Goals as goal
+
+pub inner_inflow-requires : goal.inner_inflow-requires
+inner_inflow-requires c = let p = c.requires in record { on = p.0; inner = p.1 c.if-inner.true }
