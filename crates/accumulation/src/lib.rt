@@ -1,5 +1,6 @@
 // Accumulating, checking an accumulation, and subaccumulating.
 #![tactic(auto)]
+
 ghost use Rattle.std.specs.Prelude.{◌≡◌};
 ghost use Rattle.ground.specs.Grid.{grid_of};
 ghost use Rattle.answers.specs.Entries.{catchment, Accumulates, check_number, Subaccumulates};

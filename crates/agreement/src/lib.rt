@@ -1,6 +1,7 @@
 // Check 14: does an accumulation fulfil its equation at every cell? Sums of inflows are compared in 64 bits, since the
 // lent numbers may be any.
 #![tactic(auto)]
+
 ghost use Rattle.std.specs.Prelude.{◌≡◌, ◌*◌, ◌+◌, ◌-◌};
 ghost use Rattle.ground.specs.Grid.{grid_of};
 ghost use Rattle.ground.specs.Accumulation.{agrees};

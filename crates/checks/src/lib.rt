@@ -1,5 +1,6 @@
 // The checks 10 to 18 of the grid entries. The answer is the number of the first that fails, and 0 if none does.
 #![tactic(auto)]
+
 ghost use Rattle.std.specs.Prelude.{◌≡◌, length, leb};
 ghost use Rattle.lists.specs.Lists.{In, different};
 ghost use Rattle.ground.specs.Tables.{Table, codes_of};

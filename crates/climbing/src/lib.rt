@@ -2,6 +2,7 @@
 // entered, upstream to the cell below when it is left. Marks at the outlets keep the traversal of one subwatershed out
 // of the next. ds and dd are the grids of straight and diagonal steps downstream, us and ud those upstream.
 #![tactic(auto)]
+
 ghost use Rattle.std.specs.Prelude.{◌≡◌, ◌*◌, ◌+◌, ◌<◌, length};
 ghost use Rattle.ground.specs.Grid.{grid_of};
 ghost use Rattle.answers.specs.FlowLengths.{length_grids};

@@ -1,5 +1,6 @@
 // Grids of other packages: codes from one table to another.
 #![tactic(auto)]
+
 ghost use Rattle.std.specs.Prelude.{◌≡◌};
 ghost use Rattle.answers.specs.Converting.{conversion, Converts};
 ghost use Rattle.converting.specs.Rewriting.{counterpart, Pairs, Readable, Rewritten};

@@ -1,6 +1,7 @@
 // The first word of every cell of a lent grid: how many neighbours flow in, and the cell itself. Each word is written
 // once, by looking at the neighbours, and no word is read; so the inner cells of a row are counted several at once.
 #![tactic(auto)]
+
 ghost use Rattle.std.specs.Prelude.{◌≡◌, ◌*◌, ◌+◌, ◌-◌, ◌≤◌, ◌<◌};
 ghost use Rattle.ground.specs.Grid.{grid_of};
 ghost use Rattle.moves.specs.Lent.{OnCell};

@@ -1,5 +1,6 @@
 // Drawing one flow path: the cells of a walk, from its start to its outlet.
 #![tactic(auto)]
+
 ghost use Rattle.std.specs.Prelude.{◌≡◌, ◌<◌, ◌^◌, length};
 ghost use Rattle.lists.specs.Slices.{overlaid};
 ghost use Rattle.ground.specs.Grid.{grid_of};

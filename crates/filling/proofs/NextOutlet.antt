@@ -33,6 +33,11 @@ pub record Next (rows cols : ℕ) (codes outlets l : List ℕ) (j o : ℕ) : Typ
   pub in_list : j < length outlets
   pub flagged : Flagged (grid_of rows cols codes) outlets l j
 
+pub the_next : {rows cols : ℕ} {codes outlets l : List ℕ} {j o : ℕ}
+    → Fillable rows cols codes outlets l × (j < length outlets) → Flagged (grid_of rows cols codes) outlets l j
+    → o ≡ get_or outlets j 0 → Next rows cols codes outlets l j o
+the_next f g e = record { fillable = f.0; is_outlet_lem = e; in_list = f.1; flagged = g }
+
 module _ {rows cols : ℕ} {codes outlets l : List ℕ} {j o : ℕ} (n : Next rows cols codes outlets l j o) where
   abbrev land : Grid
   land = grid_of rows cols codes

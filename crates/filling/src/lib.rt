@@ -5,6 +5,7 @@
 // down, or null and looked at. Some parameters serve the contracts alone: `outlets` in all that look and go down, since
 // the flags tell the outlets, and `looked` and `done` of a step.
 #![tactic(auto)]
+
 ghost use Rattle.std.specs.Prelude.{◌+◌, ◌*◌, ◌≤◌, ◌<◌, length};
 ghost use Rattle.lists.specs.Slices.{Kept, Within};
 ghost use Rattle.ground.specs.Grid.{grid_of};

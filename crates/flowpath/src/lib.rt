@@ -1,5 +1,6 @@
 // The measure of a walk: how many cells it has from a start to its first outlet, if that is the outlet asked for.
 #![tactic(auto)]
+
 ghost use Rattle.std.specs.Prelude.{◌≡◌, true, ◌+◌, ◌≤◌, ◌<◌, length, get_or};
 ghost use Rattle.lists.specs.Lists.{member};
 ghost use Rattle.ground.specs.Grid.{grid_of, ground};

@@ -2,6 +2,7 @@
 // and dd are the grids of straight and diagonal steps downstream, us and ud those upstream. The marks of the outlets
 // stand in dd.
 #![tactic(auto)]
+
 ghost use Rattle.std.specs.Prelude.{◌≤◌, ◌<◌, ◌^◌, length, get_or};
 ghost use Rattle.lists.specs.Slices.{Within};
 ghost use Rattle.answers.specs.FlowLengths.{length_grids};

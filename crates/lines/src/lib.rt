@@ -1,5 +1,6 @@
 // The desk's lines, put as bytes into a lent slice from a place on. What finds no room is left out.
 #![tactic(auto)]
+
 ghost use Rattle.std.specs.Prelude.{[], ◌∷◌};
 ghost use Rattle.lines.specs.Line.{decimal, labelled, catchment_line, outlet_line, path_line, refused_line};
 ghost use Rattle.lines.specs.Appending.{Appends};

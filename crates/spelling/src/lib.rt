@@ -1,5 +1,6 @@
 // What reading and writing a sheet hand back, and the check that both make.
 #![tactic(auto)]
+
 ghost use Rattle.std.specs.Prelude.{◌≡◌};
 ghost use Rattle.spelling.specs.Reading.{is_sheet_side, are_sheet_sides};
 

@@ -1,6 +1,7 @@
 // Through subwatersheds without a stack: up to one tributary after another, and when none is left down by the code, to
 // the tributary after the one that one came from. The marks tell where not to go.
 #![tactic(auto)]
+
 ghost use Rattle.std.specs.Prelude.{◌<◌};
 ghost use Rattle.ground.specs.Grid.{grid_of};
 ghost use Rattle.traversal.specs.Turns.{OnPosition, Turning, InnerTurning, NextTurn};

@@ -1,12 +1,8 @@
 -- `agreement::agrees_all` meets its contract. The loop's invariant: the equation holds at every cell before the row.
 -- Assumes nothing.
-use mathlib.Core.Path.{◌≡◌, sym}
 use Prim.Native.Nat.{◌*◌, ◌-◌, ◌≤◌}
-use native.Mathlib.Omega.{arith}
-use borrow.Author.Rules.{rules}
-use borrow.Author.Tests.{not-true, not-false}
 use Rattle.ground.specs.Grid.{grid_of}
-use Rattle.agreement.proofs.Rows.{AgreesBefore, before_none, before_row, before_all}
+use Rattle.agreement.proofs.Rows.{AgreesBefore}
 use Rattle.agreement.proofs.agrees_all.Given as goal
 
 abbrev pub invariant-loop-row : goal.invariant-loop-row

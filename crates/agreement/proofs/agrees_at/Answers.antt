@@ -3,7 +3,6 @@
 use mathlib.Core.Path.{◌≡◌, ◌∙◌}
 use Prim.Native.Nat.{◌+◌, ◌*◌}
 use native.Mathlib.Omega.{arith}
-use borrow.Author.Rules.{rules}
 use Rattle.lists.specs.Lists.{sum_of}
 use Rattle.ground.specs.Grid.{grid_of, inflow_record}
 use Rattle.agreement.proofs.Cells.{null_agrees, ground_agrees, inside}
@@ -43,7 +42,7 @@ overflow_add-result c =
       arith,
       sum_is c,
       record_small (grid_of c.args.rows c.args.cols c.args.codes.now) c.args.accumulation.now
-          (λ y. omega (arith, c.shared_slice_known-2-1.given y))
+          (λ y. omega (arith, c.type_inv.accumulation y))
           (c.args.row * c.args.cols + c.args.col),
     )
 

@@ -1,16 +1,15 @@
 -- `agreement::agrees_inside` meets its contract: as `agrees_at` does, by what is due at the cell.
 -- Assumes nothing.
 use mathlib.Core.Path.{◌≡◌, ap, ◌∙◌}
-use mathlib.Core.Logic.{⊎_elim}
 use Prim.Native.Nat.{◌+◌, ◌*◌}
 use native.Mathlib.Omega.{arith}
-use borrow.Author.Rules.{rules}
 use lib.Dec.{eqb}
 use Rattle.lists.specs.Lists.{sum_of}
 use Rattle.ground.specs.Grid.{grid_of, inflow_record}
 use Rattle.agreement.proofs.Cells.{null_agrees, ground_agrees, inside}
 use Rattle.agreement.proofs.Sums.{record_small}
 use Rattle.agreement.proofs.agrees_inside.Goals as goal
+use Rattle.agreement.proofs.agrees_inside.Goals.{then-codes-at-eq0, else-codes-at-eq0}
 
 pub overflow_mul-at : goal.overflow_mul-at
 overflow_mul-at c = omega (arith, inside c.requires.has)
@@ -37,7 +36,7 @@ overflow_add-due c =
       arith,
       sum_is c,
       record_small (grid_of c.args.rows c.args.cols c.args.codes.now) c.args.accumulation.now
-          (λ y. omega (arith, c.shared_slice_known-2-1.given y))
+          (λ y. omega (arith, c.type_inv.accumulation y))
           (c.args.row * c.args.cols + c.args.col),
     )
 
@@ -47,10 +46,10 @@ bounds-codes-at c = omega (arith, inside c.requires.has)
 pub returns : goal.returns
 returns c =
     let value = c.wide-value in
-    ⊎_elim
-    (λ way. ap (eqb value.result) way.1
-    ∙ null_agrees _ _ (inside c.requires.has).0 c.args.accumulation.now value.ensures.0 way.0.taken)
-    (λ way. ap (eqb value.result) way.1
-    ∙ ground_agrees _ _ (inside c.requires.has).0 c.args.accumulation.now value.ensures.0
-    ((let held : let a = c.args in c.sum-due.result ≡ sum_of (inflow_record (grid_of a.rows a.cols a.codes.now) a.accumulation.now (a.row * a.cols + a.col)) = c.sum-due.ensures ∙ rw c.inner_inflows.ensures in held)) way.0.left)
-    c.if-codes-at-eq0.branch
+    elim c.if-codes-at-eq0.branch [
+      | then-codes-at-eq0 w ↦ ap (eqb value.result) w.due-is
+          ∙ null_agrees _ _ (inside c.requires.has).0 c.args.accumulation.now value.ensures.0 w.if-codes-at-eq0.true
+      | else-codes-at-eq0 w ↦ ap (eqb value.result) w.due-is
+          ∙ ground_agrees _ _ (inside c.requires.has).0 c.args.accumulation.now value.ensures.0
+          (c.sum-due.ensures ∙ rw c.inner_inflows.ensures) w.if-codes-at-eq0.false
+    ]

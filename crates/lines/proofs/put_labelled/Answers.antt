@@ -1,7 +1,6 @@
 -- `lines::put_labelled` meets its contract.
 -- Assumes nothing.
 use Rattle.lines.proofs.Appending.{appends_both}
-use borrow.Author.Rules.{rules}
 use Rattle.lines.proofs.put_labelled.Goals as goal
 
 pub returns : goal.returns

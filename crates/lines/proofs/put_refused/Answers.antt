@@ -2,7 +2,6 @@
 -- Assumes nothing.
 use Rattle.lines.specs.Line.{refused_line}
 use Rattle.lines.proofs.Appending.{appends_both}
-use borrow.Author.Rules.{rules}
 use Rattle.lines.proofs.put_refused.Goals as goal
 
 pub returns : goal.returns

@@ -1,13 +1,11 @@
 -- `lines::put_word` meets its contract: as many bytes of the word as were turned to are put.
 -- Assumes nothing.
-use mathlib.Core.Path.{◌≡◌, refl, sym, ap, ◌∙◌}
-use Prim.Native.Nat.{ℕ, ◌-◌, ◌≤◌}
+use mathlib.Core.Path.{refl, sym, ap, ◌∙◌}
+use Prim.Native.Nat.{ℕ}
 use native.Mathlib.Numerals.{add-one}
 use native.Mathlib.Omega.{arith}
-use lib.ListN.{length, take}
+use lib.ListN.{take}
 use lib.Seq.{take-suc, take_all}
-use borrow.Author.Rules.{rules}
-use Rattle.lines.specs.Appending.{Appends}
 use Rattle.lines.proofs.Appending.{appends_none, appends_both, appends_as}
 use Rattle.lines.proofs.put_word.Goals as goal
 
@@ -25,7 +23,7 @@ loop-i-preserved c =
       appends_as
           (sym (ap (λ (n : ℕ). take n a.word.now) (add-one l.i) ∙ take-suc a.word.now l.i 0 inside))
           (appends_both l.invariant.1 p.ensures),
-      p.auto.0 ∙ l.invariant.2,
+      p.auto.text ∙ l.invariant.2,
     )
 
 pub returns : goal.returns

@@ -1,14 +1,9 @@
 -- `lines::put_word` meets its contract: as many bytes of the word as were turned to are put.
 -- Assumes nothing.
-use mathlib.Core.Path.{◌≡◌, refl, sym, ap, ◌∙◌}
-use Prim.Native.Nat.{ℕ, ◌-◌, ◌≤◌}
-use native.Mathlib.Numerals.{add-one}
-use native.Mathlib.Omega.{arith}
+use mathlib.Core.Path.{◌≡◌}
+use Prim.Native.Nat.{◌-◌, ◌≤◌}
 use lib.ListN.{length, take}
-use lib.Seq.{take-suc, take_all}
-use borrow.Author.Rules.{rules}
 use Rattle.lines.specs.Appending.{Appends}
-use Rattle.lines.proofs.Appending.{appends_none, appends_both, appends_as}
 use Rattle.lines.proofs.put_word.Given as goal
 
 abbrev pub invariant-loop-i : goal.invariant-loop-i

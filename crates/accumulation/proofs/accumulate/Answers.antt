@@ -1,0 +1,32 @@
+-- `accumulation::accumulate` meets its contract.
+-- Assumes nothing.
+use mathlib.Core.Path.{◌≡◌, sym, ◌∙◌}
+use Rattle.answers.specs.Checks.{first_failed}
+use Rattle.accumulation.proofs.Accumulated.{before, refused, fillable, filled}
+use Rattle.accumulation.proofs.accumulate.Goals as goal
+
+pub returns-then-number-ne0 : goal.returns-then-number-ne0
+returns-then-number-ne0 c =
+    let a = c.args in
+    refused a.rows a.cols a.codes.now a.accumulation.now c.grid_number-number.ensures c.if-number-ne0.true
+
+pub fill-requires : goal.fill-requires
+fill-requires c =
+    let a = c.args in
+    fillable a.rows a.cols a.codes.now a.accumulation.now ((let held : let a = c.args in first_failed (before a.rows a.cols a.codes.now a.accumulation.now) ≡ 0 = sym c.grid_number-number.ensures ∙ c.if-number-ne0.false in held))
+
+pub returns-then-not-fill : goal.returns-then-not-fill
+returns-then-not-fill c =
+    let a = c.args in
+    let f = c.fill in
+    rw c.if-not-fill.true at
+    (filled a.rows a.cols a.codes.now a.accumulation.now
+    ((let held : let a = c.args in first_failed (before a.rows a.cols a.codes.now a.accumulation.now) ≡ 0 = sym c.grid_number-number.ensures ∙ c.if-number-ne0.false in held)) f.result f.ensures)
+
+pub returns : goal.returns
+returns c =
+    let a = c.args in
+    let f = c.fill in
+    rw c.if-not-fill.false at
+    (filled a.rows a.cols a.codes.now a.accumulation.now
+    ((let held : let a = c.args in first_failed (before a.rows a.cols a.codes.now a.accumulation.now) ≡ 0 = sym c.grid_number-number.ensures ∙ c.if-number-ne0.false in held)) f.result f.ensures)

@@ -1,0 +1,18 @@
+-- `drawing::draw` meets its contract: the first places, as many as `draw_into` counts, are the part.
+-- Assumes nothing.
+use mathlib.Core.Path.{refl}
+use Rattle.answers.specs.Drawing.{drawing_of}
+use Rattle.drawing.proofs.Accepted.{part_taken, part_long}
+use Rattle.drawing.proofs.draw.Goals as goal
+
+pub slice_bounds-result-end : goal.slice_bounds-result-end
+slice_bounds-result-end c =
+    let a = c.args in
+    let q = drawing_of a.rows a.cols a.codes.now a.accumulation.now a.outlets.now a.place a.start in
+    part_long q a.path.now c.draw_into-drawn.ensures
+
+pub returns : goal.returns
+returns c =
+    let a = c.args in
+    let q = drawing_of a.rows a.cols a.codes.now a.accumulation.now a.outlets.now a.place a.start in
+    (part_taken q a.path.now c.draw_into-drawn.ensures, refl)

@@ -1,0 +1,51 @@
+-- `noting::make_ready` meets its contract: the outlets are noted, then one divide after the other.
+-- Assumes nothing.
+use mathlib.Core.Path.{◌≡◌, ◌∙◌, subst}
+use Prim.Native.Nat.{ℕ, ◌-◌, ◌*◌, ◌≤◌}
+use native.Mathlib.Omega.{arith}
+use lib.ListN.{length}
+use borrow.Author.Rules.{rules}
+use borrow.Author.Tests.{eq-eqb, ne_eqb}
+use Rattle.lists.specs.Slices.{Kept}
+use Rattle.lists.proofs.Kept.{kept_all, kept_then}
+use Rattle.noting.proofs.Readying.{Marked, ListKept, list_next, few, outlets_within, ready_plain, marked_begin}
+use Rattle.noting.proofs.Readying.{can_note, marked_next, ready_marked}
+use Rattle.noting.proofs.make_ready.Goals as goal
+
+pub overflow_mul-rows : goal.overflow_mul-rows
+overflow_mul-rows c = omega (arith, few c.requires.fresh)
+
+pub note_outlets-requires : goal.note_outlets-requires
+note_outlets-requires c =
+    (c.requires.fresh.has_room, outlets_within c.requires.fresh)
+
+pub loop-j-init : goal.loop-j-init
+loop-j-init c =
+    (
+      omega arith,
+      c.requires.places.in_order,
+      marked_begin c.requires.fresh c.args.first c.note_outlets.ensures,
+      kept_all,
+      λ most f. kept_all,
+    )
+
+pub loop-j-preserved : goal.loop-j-preserved
+loop-j-preserved c =
+    let a = c.args in
+    let i = c.loop-j.invariant in
+    let d = c.note_enclosed.ensures in (
+      omega (arith, i.0),
+      omega arith,
+      marked_next c.requires.fresh a.first i.2 i.0 d.notes,
+      kept_then i.3 d.notes.kept,
+      list_next a.rows a.cols a.codes.now a.outlets.now i.0 i.4 d.kept,
+    )
+
+pub shape_of-subaccumulation : goal.shape_of-subaccumulation
+shape_of-subaccumulation c =
+    c.loop-j.invariant.3.same_length ∙ c.note_outlets.ensures.kept.same_length
+
+pub shape_of-list : goal.shape_of-list
+shape_of-list c =
+    (c.loop-j.invariant.4 (length c.args.list.now)
+    (λ j a b. c.requires.places.room j a (omega (arith, b, c.loop-j.invariant.1)))).same_length
