@@ -3,7 +3,6 @@
 use native.Mathlib.Omega.{arith}
 use lib.ListN.{length-set}
 use Rattle.stack.proofs.Putting.{put_one}
-use borrow.Author.Rules.{rules}
 use Rattle.stack.proofs.put.Goals as goal
 
 pub bounds-work-at-2 : goal.bounds-work-at-2

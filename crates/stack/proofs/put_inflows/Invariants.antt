@@ -1,16 +1,11 @@
 -- `stack::put_inflows` meets its contract: what lies in the directions from `left` on is put on.
 -- Assumes nothing.
-use mathlib.Core.Path.{◌≡◌, refl, ap, ◌∙◌, subst}
-use Prim.Native.Nat.{ℕ, ◌+◌, ◌*◌, ◌≤◌}
-use native.Mathlib.Omega.{arith}
+use mathlib.Core.Path.{◌≡◌}
+use Prim.Native.Nat.{◌+◌, ◌*◌, ◌≤◌}
 use lib.ListN.{length, drop}
-use borrow.Author.Rules.{rules}
-use Rattle.lengths.specs.Rule.{plus_step}
 use Rattle.ground.specs.Compass.{dirs}
 use Rattle.ground.specs.Grid.{grid_of}
-use Rattle.upstream.proofs.Turning.{nothing_there, found_there}
 use Rattle.stack.specs.Pending.{inflows_above, PutOn}
-use Rattle.stack.proofs.Putting.{put_none, passed, room_left, joined}
 use Rattle.stack.proofs.put_inflows.Given as goal
 
 abbrev pub invariant-loop-left : goal.invariant-loop-left
