@@ -42,6 +42,11 @@ counterpart_recoded from to {a} {b} e f code coded =
     ∙ get_d_map (recoded from to) (codes_of from) p.at 0 p.inside
     ∙ ap (recoded from to) p.holds
 
+-- both are tables
+pub both_tables : (c : Conversion) → is_table c.from ≡ true → is_table c.to ≡ true
+    → (is_table c.from && is_table c.to) ≡ true
+both_tables c e f = rw (e, f)
+
 module _ (c : Conversion) (old : List ℕ) where
   abbrev g : Grid
   g = source c

@@ -14,7 +14,8 @@ loop-j-init c = (omega arith, c.requires.flagged, kept_all)
 
 pub flag_at-requires : goal.flag_at-requires
 flag_at-requires c =
-    let v = c.loop-j.invariant in record { fillable = (fillable_kept v.2 c.requires.fillable, c.loop-j-test.true); flagged = v.1 }
+    let v = c.loop-j.invariant in
+    record { fillable = (fillable_kept v.2 c.requires.fillable, c.loop-j-test.true); flagged = v.1 }
 
 pub shape_of-words : goal.shape_of-words
 shape_of-words c = c.loop-j.invariant.2.same_length
@@ -23,4 +24,8 @@ pub returns : goal.returns
 returns c =
     let a = c.args in
     let v = c.loop-j.invariant in
-    let e : c.loop-j.j ≡ length a.outlets.now = omega (arith, v.0) in record { flags = subst (Flagged (grid_of a.rows a.cols a.codes.now) a.outlets.now c.loop-j.words) e v.1; keeps = v.2 }
+    let e : c.loop-j.j ≡ length a.outlets.now = omega (arith, v.0) in
+    record {
+      flags = subst (Flagged (grid_of a.rows a.cols a.codes.now) a.outlets.now c.loop-j.words) e v.1;
+      keeps = v.2;
+    }

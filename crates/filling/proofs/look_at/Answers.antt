@@ -19,12 +19,24 @@ overflow_add-result c =
 
 pub returns-then-word-eq0 : goal.returns-then-word-eq0
 returns-then-word-eq0 c =
-    record { looks = look_none c.requires.fillable_at.fillable _ (at_inside c.requires.fillable_at).0 c.requires.looked c.if-word-eq0.true; keeps = kept_all }
+    let at = c.requires.fillable_at in
+    record {
+      looks = look_none at.fillable _ (at_inside at).0 c.requires.looked c.if-word-eq0.true;
+      keeps = kept_all;
+    }
 
 pub walk_down-requires : goal.walk_down-requires
 walk_down-requires c =
-    record { fillable_at = c.requires.fillable_at; down = look_yes c.requires.fillable_at.fillable _ (at_inside c.requires.fillable_at).0 c.requires.looked c.if-word-eq1.true }
+    let at = c.requires.fillable_at in
+    record {
+      fillable_at = at;
+      down = look_yes at.fillable _ (at_inside at).0 c.requires.looked c.if-word-eq1.true;
+    }
 
 pub returns : goal.returns
 returns c =
-    record { looks = look_no c.requires.fillable_at.fillable _ (at_inside c.requires.fillable_at).0 c.requires.looked c.if-word-eq0.false c.if-word-eq1.false; keeps = kept_all }
+    let at = c.requires.fillable_at in
+    record {
+      looks = look_no at.fillable _ (at_inside at).0 c.requires.looked c.if-word-eq0.false c.if-word-eq1.false;
+      keeps = kept_all;
+    }

@@ -15,25 +15,19 @@ loop-j-init c = (search rules, strip_begin)
 pub bounds-words-at : goal.bounds-words-at
 bounds-words-at c = omega (
   arith,
-  (let held : c.index_of-at.result < length c.loop-j.words = omega (
-    arith,
-    c.index_of-at.ensures,
-    c.requires.0,
-    c.requires.1 c.loop-j.j c.loop-j-test.true,
-    c.loop-j.invariant.1.kept.same_length,
-  ) in held),
+  c.index_of-at.ensures,
+  c.requires.0,
+  c.requires.1 c.loop-j.j c.loop-j-test.true,
+  c.loop-j.invariant.1.kept.same_length,
 )
 
 pub bounds-words-at-in-loop-j : goal.bounds-words-at-in-loop-j
 bounds-words-at-in-loop-j c = omega (
   arith,
-  (let held : c.index_of-at.result < length c.loop-j.words = omega (
-    arith,
-    c.index_of-at.ensures,
-    c.requires.0,
-    c.requires.1 c.loop-j.j c.loop-j-test.true,
-    c.loop-j.invariant.1.kept.same_length,
-  ) in held),
+  c.index_of-at.ensures,
+  c.requires.0,
+  c.requires.1 c.loop-j.j c.loop-j-test.true,
+  c.loop-j.invariant.1.kept.same_length,
 )
 
 pub loop-j-preserved : goal.loop-j-preserved

@@ -49,3 +49,29 @@ pub shape_of-list : goal.shape_of-list
 shape_of-list c =
     (c.loop-j.invariant.4 (length c.args.list.now)
     (λ j a b. c.requires.places.room j a (omega (arith, b, c.loop-j.invariant.1)))).same_length
+
+pub returns-then-edition-ne2 : goal.returns-then-edition-ne2
+returns-then-edition-ne2 c =
+    ready_plain c.requires.fresh (ne_eqb _ _ c.if-edition-ne2.true) c.requires.places.in_list
+
+pub note_enclosed-requires : goal.note_enclosed-requires
+note_enclosed-requires c =
+    let i = c.loop-j.invariant in
+    can_note c.requires.fresh c.args.first i.2 (omega (arith, c.loop-j-test.true, c.requires.places.in_list))
+    (omega (
+      arith,
+      c.requires.places.room c.loop-j.j i.0 c.loop-j-test.true,
+      (i.4 (length c.args.list.now) (λ j a b. c.requires.places.room j a (omega (arith, b, i.1)))).same_length,
+    ))
+
+pub returns : goal.returns
+returns c =
+    let a = c.args in
+    let i = c.loop-j.invariant in
+    let e : c.loop-j.j ≡ a.end = omega arith in
+    ready_marked c.requires.fresh a.first c.requires.places.in_list
+    (subst (λ (k : ℕ). Marked a.rows a.cols a.codes.now a.outlets.now a.first k c.loop-j.subaccumulation)
+    e i.2) (eq-eqb _ _ c.if-edition-ne2.false)
+    (kept_then c.note_outlets.ensures.kept i.3)
+    (subst (λ (k : ℕ). ListKept a.rows a.cols a.codes.now a.outlets.now a.first k a.list.now
+    c.loop-j.list) e i.4)

@@ -36,7 +36,7 @@ make_ready_requires c κs =
     let s = c.before.before.before.before.before.before.before.before in
     let a = s.args in (
       s.requires.0,
-      own_place a.rows a.cols a.codes.now a.outlets.now a.place s.requires.1.0.in_List s.requires.1.1,
+      own_place a.rows a.cols a.codes.now a.outlets.now a.place s.requires.1.0.in_list s.requires.1.1,
     )
 
 trace_requires : tie.Need-trace-requires

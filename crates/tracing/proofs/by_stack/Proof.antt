@@ -22,7 +22,7 @@ make_ready_requires c κs =
     let s = c.before.before.before.before.before.before.before in
     let a = s.args in (
       s.requires.0,
-      own_place a.rows a.cols a.codes.now a.outlets.now a.place s.requires.1.0.in_List
+      own_place a.rows a.cols a.codes.now a.outlets.now a.place s.requires.1.0.in_list
           (omega (arith, s.requires.1.1.0, s.requires.1.1.1)),
     )
 
