@@ -10,7 +10,10 @@ use Rattle.stack.proofs.cells_above.Given as goal
 
 abbrev pub invariant-loop-i : goal.invariant-loop-i
 invariant-loop-i l =
-    (l.i ≤ 8) × (length (map cells_held l.values) ≡ 8) × (l.total ≤ l.i * 2 ^ 29) × (l.total ≡ sum_of (take l.i (map cells_held l.values)))
+    (l.i ≤ 8)
+    × (length (map cells_held l.values) ≡ 8)
+    × (l.total ≤ l.i * 2 ^ 29)
+    × (l.total ≡ sum_of (take l.i (map cells_held l.values)))
 
 abbrev pub decreases-loop-i : goal.decreases-loop-i
 decreases-loop-i l = 8 - l.i

@@ -4,27 +4,9 @@ use mathlib.Core.Path.{sym, ◌∙◌, subst}
 use native.Mathlib.Omega.{arith}
 use Rattle.stack.specs.Pending.{PutOn}
 use Rattle.stack.proofs.Putting.{put_none}
-use Rattle.stack.proofs.Climbing.{indexed, read, none_above}
+use Rattle.stack.proofs.Climbing.{read, none_above}
 use Rattle.stack.proofs.Entering.{room, entered}
 use Rattle.stack.proofs.enter_cell.Goals as goal
-
-pub overflow_mul-at : goal.overflow_mul-at
-overflow_mul-at c = omega (arith, indexed c.requires.ready c.requires.on_ground)
-
-pub overflow_add-at : goal.overflow_add-at
-overflow_add-at c = omega (arith, indexed c.requires.ready c.requires.on_ground)
-
-pub offset_bounds-subaccumulation-at : goal.offset_bounds-subaccumulation-at
-offset_bounds-subaccumulation-at c = omega (arith, indexed c.requires.ready c.requires.on_ground)
-
-pub bounds-subaccumulation-at : goal.bounds-subaccumulation-at
-bounds-subaccumulation-at c = omega (arith, indexed c.requires.ready c.requires.on_ground)
-
-pub overflow_cast-at : goal.overflow_cast-at
-overflow_cast-at c = omega (arith, indexed c.requires.ready c.requires.on_ground)
-
-pub visit-requires : goal.visit-requires
-visit-requires c = room c.requires.ready c.requires.on_ground c.requires.fits
 
 pub returns-then-n-eq1 : goal.returns-then-n-eq1
 returns-then-n-eq1 c =
@@ -36,9 +18,6 @@ returns-then-n-eq1 c =
     (sym (none_above p.ready p.on_ground a.len
     (sym (c.cells_held-n.ensures ∙ read p.ready p.on_ground) ∙ c.if-n-eq1.true)))
     (put_none c.visit.new.work a.top))
-
-pub overflow_cast-at-2 : goal.overflow_cast-at-2
-overflow_cast-at-2 c = omega (arith, indexed c.requires.ready c.requires.on_ground)
 
 pub visit-progress-requires : goal.visit-progress-requires
 visit-progress-requires c = room c.requires.ready c.requires.on_ground c.requires.fits

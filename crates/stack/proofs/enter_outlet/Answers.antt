@@ -1,24 +1,9 @@
 -- `stack::enter_outlet` meets its contract.
 -- Assumes nothing.
 use native.Mathlib.Omega.{arith}
-use Rattle.stack.proofs.Climbing.{on_cell, few_above, indexed}
+use Rattle.stack.proofs.Climbing.{on_cell, few_above}
 use Rattle.stack.proofs.Entering.{room, entered}
 use Rattle.stack.proofs.enter_outlet.Goals as goal
-
-pub overflow_mul-at : goal.overflow_mul-at
-overflow_mul-at c = omega (arith, indexed c.requires.ready c.requires.on_ground)
-
-pub overflow_add-at : goal.overflow_add-at
-overflow_add-at c = omega (arith, indexed c.requires.ready c.requires.on_ground)
-
-pub offset_bounds-subaccumulation-at : goal.offset_bounds-subaccumulation-at
-offset_bounds-subaccumulation-at c = omega (arith, indexed c.requires.ready c.requires.on_ground)
-
-pub bounds-subaccumulation-at : goal.bounds-subaccumulation-at
-bounds-subaccumulation-at c = omega (arith, indexed c.requires.ready c.requires.on_ground)
-
-pub overflow_cast-at : goal.overflow_cast-at
-overflow_cast-at c = omega (arith, indexed c.requires.ready c.requires.on_ground)
 
 pub visit-visited-requires : goal.visit-visited-requires
 visit-visited-requires c = room c.requires.ready c.requires.on_ground c.requires.fits

@@ -4,14 +4,8 @@ use mathlib.Core.Path.{sym, ◌∙◌}
 use native.Mathlib.Omega.{arith}
 use borrow.Author.Tests.{eqb-true, not-true}
 use Rattle.stack.proofs.Near.{none_near}
-use Rattle.stack.proofs.Climbing.{indexed, one_cell, no_outlet_lem}
+use Rattle.stack.proofs.Climbing.{one_cell, no_outlet_lem}
 use Rattle.stack.proofs.none_flows_in.Goals as goal
-
-pub overflow_mul-row : goal.overflow_mul-row
-overflow_mul-row c = omega (arith, indexed c.requires.ready c.requires.on_ground)
-
-pub overflow_add-row : goal.overflow_add-row
-overflow_add-row c = omega (arith, indexed c.requires.ready c.requires.on_ground)
 
 pub returns-then-outlets-lt16 : goal.returns-then-outlets-lt16
 returns-then-outlets-lt16 c =

@@ -16,15 +16,6 @@ pub loop-left-init : goal.loop-left-init
 unfolding inflows_above
 loop-left-init c = let a = c.args in (omega arith, refl, put_none a.work.now a.top)
 
-pub tributary-requires : goal.tributary-requires
-tributary-requires c =
-    (c.requires.on_cell, c.is_inner-inner.ensures.0)
-
-pub plus-own-requires : goal.plus-own-requires
-plus-own-requires c =
-    let short = c.requires.len_in_bounds.1 in
-    (omega (arith, short), omega (arith, short))
-
 pub put-at-requires : goal.put-at-requires
 put-at-requires c =
     let a = c.args in
@@ -65,9 +56,6 @@ loop-left-preserved c =
           l.left (omega arith) l.invariant.0 l.invariant.2
           (nothing_there f c.in_default.is),
     )
-
-pub shape_of-work : goal.shape_of-work
-shape_of-work c = c.loop-left.invariant.1
 
 pub returns : goal.returns
 returns c =

@@ -12,7 +12,8 @@ abbrev pub invariant-loop-left : goal.invariant-loop-left
 invariant-loop-left l =
     (l.left ≤ 8)
     × (length l.work ≡ length l.initial.work)
-    × PutOn (inflows_above (grid_of l.rows l.cols l.codes) l.outlets (l.row * l.cols + l.col) l.len (drop l.left dirs)) l.top l.initial.work l.at l.work
+    × PutOn (inflows_above (grid_of l.rows l.cols l.codes) l.outlets (l.row * l.cols + l.col) l.len (drop l.left dirs))
+    l.top l.initial.work l.at l.work
 
 abbrev pub decreases-loop-left : goal.decreases-loop-left
 decreases-loop-left l = l.left

@@ -9,7 +9,7 @@ use Rattle.ground.specs.Grid.{grid_of}
 use Rattle.ground.specs.Accumulation.{subaccumulation}
 use Rattle.notes.specs.Notes.{cells_held}
 use Rattle.upstream.specs.Ready.{Ready, OnGround, met_in}
-use Rattle.stack.proofs.Climbing.{indexed, read, small_cells}
+use Rattle.stack.proofs.Climbing.{read, small_cells}
 use Rattle.stack.proofs.Turning.{drains_on, outlet_fits, outlet_stands, outlet_drains, traced}
 use Rattle.stack.proofs.trace.Goals as goal
 
@@ -18,18 +18,6 @@ end_is : {rows cols : ℕ} {codes outlets words : List ℕ} {row col : ℕ} → 
     → OnGround rows cols codes row col → {held n : ℕ} → n ≡ held → held ≡ cells_held (get_or words (row * cols + col) 0)
     → 3 * n ≡ 3 * subaccumulation (grid_of rows cols codes) outlets (row * cols + col)
 end_is ready at e f = ap (λ (n : ℕ). 3 * n) (e ∙ f ∙ read ready at)
-
-pub overflow_mul-row : goal.overflow_mul-row
-overflow_mul-row c = omega (arith, indexed c.requires.ready c.requires.on_ground)
-
-pub overflow_add-row : goal.overflow_add-row
-overflow_add-row c = omega (arith, indexed c.requires.ready c.requires.on_ground)
-
-pub offset_bounds-subaccumulation-row : goal.offset_bounds-subaccumulation-row
-offset_bounds-subaccumulation-row c = omega (arith, indexed c.requires.ready c.requires.on_ground)
-
-pub bounds-subaccumulation-row : goal.bounds-subaccumulation-row
-bounds-subaccumulation-row c = omega (arith, indexed c.requires.ready c.requires.on_ground)
 
 pub overflow_mul-end : goal.overflow_mul-end
 overflow_mul-end c =
@@ -62,15 +50,6 @@ loop-s-init c =
       λ k h. refl,
     )
 
-pub turn-s-requires : goal.turn-s-requires
-turn-s-requires c = record {
-  ready = c.requires.ready;
-  stack_stands = (c.loop-s.invariant.1, c.loop-s-test.true);
-}
-
-pub loop-s-smaller : goal.loop-s-smaller
-loop-s-smaller c = c.turn-s.ensures.fewer
-
 pub loop-s-preserved : goal.loop-s-preserved
 loop-s-preserved c =
     let l = c.loop-s in
@@ -80,9 +59,6 @@ loop-s-preserved c =
       drains_on t.ensures l.invariant.2,
       λ i h. t.ensures.beyond i h ∙ l.invariant.3 i h,
     )
-
-pub shape_of-work : goal.shape_of-work
-shape_of-work c = c.loop-s.invariant.0 ∙ c.enter_outlet-s.auto.work
 
 pub returns : goal.returns
 returns c =

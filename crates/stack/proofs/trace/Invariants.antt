@@ -14,10 +14,10 @@ abbrev pub invariant-loop-s : goal.invariant-loop-s
 invariant-loop-s l =
     (length l.work ≡ length l.initial.work)
     × Standing (grid_of l.rows l.cols l.codes) l.outlets l.end l.s l.work
-    × (drain (grid_of l.rows l.cols l.codes) l.outlets (met_in l.edition l.subaccumulation) l.dropping (pending l.work l.s.top)
-    (state_of l.s.progress l.work l.end)
-    ≡ drain (grid_of l.rows l.cols l.codes) l.outlets (met_in l.edition l.subaccumulation) l.dropping (pending l.initial.work l.initial.s.top)
-    (state_of l.initial.s.progress l.initial.work l.end))
+    × (drain (grid_of l.rows l.cols l.codes) l.outlets (met_in l.edition l.subaccumulation) l.dropping
+    (pending l.work l.s.top) (state_of l.s.progress l.work l.end)
+    ≡ drain (grid_of l.rows l.cols l.codes) l.outlets (met_in l.edition l.subaccumulation) l.dropping
+    (pending l.initial.work l.initial.s.top) (state_of l.initial.s.progress l.initial.work l.end))
     × ((i : ℕ) → l.end ≤ i → get_or l.work i 0 ≡ get_or l.initial.work i 0)
 
 abbrev pub decreases-loop-s : goal.decreases-loop-s

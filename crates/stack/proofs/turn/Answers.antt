@@ -13,21 +13,6 @@ pending_at-w-requires c =
     let s = c.requires.stack_stands in
     omega (arith, pending_room c.requires.ready s.0 s.1, s.0.within, s.1)
 
-pub overflow_mul-row : goal.overflow_mul-row
-overflow_mul-row c =
-    let s = c.requires.stack_stands in
-    omega (arith, indexed c.requires.ready (on_ground c.requires.ready s.0 s.1 c.pending_at-w.ensures))
-
-pub overflow_add-row : goal.overflow_add-row
-overflow_add-row c =
-    let s = c.requires.stack_stands in
-    omega (arith, indexed c.requires.ready (on_ground c.requires.ready s.0 s.1 c.pending_at-w.ensures))
-
-pub offset_bounds-subaccumulation-row : goal.offset_bounds-subaccumulation-row
-offset_bounds-subaccumulation-row c =
-    let s = c.requires.stack_stands in
-    omega (arith, indexed c.requires.ready (on_ground c.requires.ready s.0 s.1 c.pending_at-w.ensures))
-
 pub bounds-subaccumulation-row : goal.bounds-subaccumulation-row
 bounds-subaccumulation-row c =
     let s = c.requires.stack_stands in
