@@ -1,5 +1,6 @@
 // The search by recursion: tracing a cell and tracing its inflows, each calling the other.
 #![tactic(auto)]
+
 ghost use Rattle.std.specs.Prelude.{◌≡◌, ◌+◌, ◌*◌, ◌≤◌, ◌<◌, ◌^◌, length};
 ghost use Rattle.upstream.specs.Ready.{Ready, OnGround, cells_at, met_in};
 ghost use Rattle.recursion.specs.Tracing.{turn_at, TurnReady, NextTurn, VisitedAt, Traced};

@@ -1,5 +1,6 @@
 // The search from pending cells, which stand at the front of the lent working space.
 #![tactic(auto)]
+
 ghost use Rattle.std.specs.Prelude.{◌≡◌, true, [], ◌∷◌, map, ◌+◌, ◌*◌, ◌≤◌, ◌<◌, length};
 ghost use Rattle.lists.specs.Lists.{sum_of};
 ghost use Rattle.search.specs.Tracing.{numbers_each};

@@ -2,10 +2,9 @@
 -- Assumes nothing.
 use mathlib.Core.Path.{◌≡◌}
 use mathlib.Core.Option.{none}
-use Prim.Native.Nat.{ℕ, ◌+◌, ◌-◌, ◌*◌, ◌≤◌, ◌<◌}
+use Prim.Native.Nat.{◌+◌, ◌*◌}
 use native.Mathlib.Omega.{arith}
 use lib.Arith.{digits_lt}
-use borrow.Author.Rules.{rules}
 use Rattle.moves.proofs.Spots.{size}
 use Rattle.ground.specs.Grid.{grid_of}
 use Rattle.moves.specs.Moves.{dir_at}
@@ -20,6 +19,14 @@ loop-n-init c = (omega arith, c.requires.within, λ i h l. absurd (omega arith))
 pub tributary-requires : goal.tributary-requires
 tributary-requires c =
     (c.requires.on, c.is_inner-inner.ensures.0)
+
+pub turn_at-requires : goal.turn_at-requires
+turn_at-requires c =
+    let f = c.tributary.ensures in
+    let on = c.in-On in
+    let h = digits_lt (f.row_in on.r on.c on.is) (f.col_in on.r on.c on.is) in
+    let p = c.requires in
+    (omega (arith, h, p.has_subaccumulations), omega (arith, h, size p.on.grid.sides))
 
 pub returns-in-On : goal.returns-in-On
 returns-in-On c =

@@ -1,6 +1,5 @@
 -- `recursion::turn_at` meets its contract.
 -- Assumes nothing.
-use borrow.Author.Rules.{rules}
 use Rattle.recursion.proofs.turn_at.Goals as goal
 
 pub returns : goal.returns

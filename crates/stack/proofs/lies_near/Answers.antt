@@ -1,16 +1,8 @@
 -- `stack::lies_near` meets its contract. The loop's invariant: what is left from k on decides.
 -- Assumes nothing.
-use mathlib.Core.Path.{◌≡◌, refl}
-use Prim.Native.Nat.{◌-◌}
 use native.Mathlib.Omega.{arith}
-use borrow.Author.Rules.{rules}
-use lib.ListN.{length, drop}
-use Rattle.stack.specs.Near.{any_near}
 use Rattle.stack.proofs.Near.{near_ends, near_found, near_goes_on}
 use Rattle.stack.proofs.lies_near.Goals as goal
-
-pub loop-k-init : goal.loop-k-init
-loop-k-init c = refl
 
 pub returns-then-gap-reach : goal.returns-then-gap-reach
 returns-then-gap-reach c =

@@ -1,12 +1,9 @@
 -- `stack::lies_near` meets its contract. The loop's invariant: what is left from k on decides.
 -- Assumes nothing.
-use mathlib.Core.Path.{◌≡◌, refl}
+use mathlib.Core.Path.{◌≡◌}
 use Prim.Native.Nat.{◌-◌}
-use native.Mathlib.Omega.{arith}
-use borrow.Author.Rules.{rules}
 use lib.ListN.{length, drop}
 use Rattle.stack.specs.Near.{any_near}
-use Rattle.stack.proofs.Near.{near_ends, near_found, near_goes_on}
 use Rattle.stack.proofs.lies_near.Given as goal
 
 abbrev pub invariant-loop-k : goal.invariant-loop-k

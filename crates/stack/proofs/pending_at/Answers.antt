@@ -1,6 +1,5 @@
 -- `stack::pending_at` meets its contract.
 -- Assumes nothing.
-use borrow.Author.Rules.{rules}
 use Rattle.stack.proofs.pending_at.Goals as goal
 
 pub returns : goal.returns

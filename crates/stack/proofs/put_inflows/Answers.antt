@@ -1,10 +1,9 @@
 -- `stack::put_inflows` meets its contract: what lies in the directions from `left` on is put on.
 -- Assumes nothing.
 use mathlib.Core.Path.{◌≡◌, refl, ap, ◌∙◌, subst}
-use Prim.Native.Nat.{ℕ, ◌+◌, ◌*◌, ◌≤◌}
+use Prim.Native.Nat.{ℕ, ◌+◌, ◌*◌}
 use native.Mathlib.Omega.{arith}
 use lib.ListN.{length, drop}
-use borrow.Author.Rules.{rules}
 use Rattle.lengths.specs.Rule.{plus_step}
 use Rattle.ground.specs.Compass.{dirs}
 use Rattle.ground.specs.Grid.{grid_of}
@@ -17,14 +16,34 @@ pub loop-left-init : goal.loop-left-init
 unfolding inflows_above
 loop-left-init c = let a = c.args in (omega arith, refl, put_none a.work.now a.top)
 
-pub tributary-requires : goal.tributary-requires
-tributary-requires c =
-    (c.requires.on_cell, c.is_inner-inner.ensures.0)
+pub put-at-requires : goal.put-at-requires
+put-at-requires c =
+    let a = c.args in
+    let l = c.loop-left in
+    let f = c.tributary.ensures in
+    let t = c.in-On in (
+      room_left (grid_of a.rows a.cols a.codes.now) a.outlets.now (a.row * a.cols + a.col) a.len
+          l.left (omega arith) l.invariant.0 l.invariant.2 t.r t.c
+          (found_there f t.is) (length l.work) (omega (arith, c.requires.len_in_bounds.0, l.invariant.1)),
+      omega (arith, f.row_in t.r t.c t.is, c.requires.on_cell.grid.sides.rows_small),
+      omega (arith, f.col_in t.r t.c t.is, c.requires.on_cell.grid.sides.cols_small),
+    )
 
-pub plus-own-requires : goal.plus-own-requires
-plus-own-requires c =
-    let short = c.requires.len_in_bounds.1 in
-    (omega (arith, short), omega (arith, short))
+pub loop-left-preserved-in-On : goal.loop-left-preserved-in-On
+loop-left-preserved-in-On c =
+    let a = c.args in
+    let l = c.loop-left in
+    let f = c.tributary.ensures in
+    let t = c.in-On in
+    let p = c.put-at in (
+      omega arith,
+      p.auto.work ∙ l.invariant.1,
+      joined (grid_of a.rows a.cols a.codes.now) a.outlets.now (a.row * a.cols + a.col) a.len
+          l.left (omega (arith, c.loop-left-test.true)) l.invariant.0 l.invariant.2 t.r t.c
+          (found_there f t.is) (f.col_in t.r t.c t.is)
+          (c.plus-own.ensures ∙ ap (plus_step a.len) c.step_at.ensures)
+          p.ensures,
+    )
 
 pub loop-left-preserved : goal.loop-left-preserved
 loop-left-preserved c =
@@ -37,9 +56,6 @@ loop-left-preserved c =
           l.left (omega arith) l.invariant.0 l.invariant.2
           (nothing_there f c.in_default.is),
     )
-
-pub shape_of-work : goal.shape_of-work
-shape_of-work c = c.loop-left.invariant.1
 
 pub returns : goal.returns
 returns c =

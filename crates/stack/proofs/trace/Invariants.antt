@@ -1,28 +1,23 @@
 -- `stack::trace` meets its contract: with each turn fewer cells are pending, and the rest of the search is the same.
 -- Assumes nothing.
-use mathlib.Core.Path.{◌≡◌, refl, ap, ◌∙◌}
-use Prim.Native.Nat.{ℕ, ◌+◌, ◌*◌, ◌≤◌}
-use native.Mathlib.Omega.{arith}
+use mathlib.Core.Path.{◌≡◌}
+use Prim.Native.Nat.{ℕ, ◌≤◌}
 use lib.ListN.{length, get_or}
-use borrow.Author.Rules.{rules}
 use Rattle.ground.specs.Grid.{grid_of}
-use Rattle.ground.specs.Accumulation.{subaccumulation}
 use Rattle.progress.specs.Starts.{state_of}
 use Rattle.upstream.specs.Ready.{met_in}
 use Rattle.stack.specs.Pending.{pending}
 use Rattle.stack.specs.Draining.{cells_pending, Standing, drain}
-use Rattle.stack.proofs.Climbing.{indexed, read, small_cells}
-use Rattle.stack.proofs.Turning.{drains_on, outlet_fits, outlet_stands, outlet_drains, traced}
 use Rattle.stack.proofs.trace.Given as goal
 
 abbrev pub invariant-loop-s : goal.invariant-loop-s
 invariant-loop-s l =
     (length l.work ≡ length l.initial.work)
     × Standing (grid_of l.rows l.cols l.codes) l.outlets l.end l.s l.work
-    × (drain (grid_of l.rows l.cols l.codes) l.outlets (met_in l.edition l.subaccumulation) l.dropping (pending l.work l.s.top)
-    (state_of l.s.progress l.work l.end)
-    ≡ drain (grid_of l.rows l.cols l.codes) l.outlets (met_in l.edition l.subaccumulation) l.dropping (pending l.initial.work l.initial.s.top)
-    (state_of l.initial.s.progress l.initial.work l.end))
+    × (drain (grid_of l.rows l.cols l.codes) l.outlets (met_in l.edition l.subaccumulation) l.dropping
+    (pending l.work l.s.top) (state_of l.s.progress l.work l.end)
+    ≡ drain (grid_of l.rows l.cols l.codes) l.outlets (met_in l.edition l.subaccumulation) l.dropping
+    (pending l.initial.work l.initial.s.top) (state_of l.initial.s.progress l.initial.work l.end))
     × ((i : ℕ) → l.end ≤ i → get_or l.work i 0 ≡ get_or l.initial.work i 0)
 
 abbrev pub decreases-loop-s : goal.decreases-loop-s

@@ -1,55 +1,60 @@
 -- `stack::turn` meets its contract: the cell that is taken off is dropped or entered.
 -- Assumes nothing.
-use mathlib.Core.Path.{◌≡◌, ◌∙◌}
+use mathlib.Core.Path.{◌∙◌}
 use native.Mathlib.Omega.{arith}
-use Rattle.upstream.specs.Ready.{OnGround, cells_at, met_in}
+use Rattle.upstream.specs.Ready.{met_in}
 use Rattle.stack.proofs.Climbing.{indexed, read}
 use Rattle.stack.proofs.Turning.{pending_room, on_ground, testable, few_dropped, fits, turn_dropped}
 use Rattle.stack.proofs.Turning.{turn_entered}
-use borrow.Author.Rules.{rules}
 use Rattle.stack.proofs.turn.Goals as goal
 
 pub pending_at-w-requires : goal.pending_at-w-requires
 pending_at-w-requires c =
-    omega (
-      arith,
-      pending_room c.requires.ready c.requires.stack_stands.0 c.requires.stack_stands.1,
-      c.requires.stack_stands.0.within,
-      c.requires.stack_stands.1,
-    )
-
-pub overflow_mul-row : goal.overflow_mul-row
-overflow_mul-row c = omega (arith, indexed c.requires.ready ((let held : OnGround c.args.rows c.args.cols c.args.codes.now c.pending_at-w.result.row c.pending_at-w.result.col = on_ground c.requires.ready c.requires.stack_stands.0 c.requires.stack_stands.1
-          c.pending_at-w.ensures in held)))
-
-pub overflow_add-row : goal.overflow_add-row
-overflow_add-row c = omega (arith, indexed c.requires.ready ((let held : OnGround c.args.rows c.args.cols c.args.codes.now c.pending_at-w.result.row c.pending_at-w.result.col = on_ground c.requires.ready c.requires.stack_stands.0 c.requires.stack_stands.1
-          c.pending_at-w.ensures in held)))
-
-pub offset_bounds-subaccumulation-row : goal.offset_bounds-subaccumulation-row
-offset_bounds-subaccumulation-row c = omega (arith, indexed c.requires.ready ((let held : OnGround c.args.rows c.args.cols c.args.codes.now c.pending_at-w.result.row c.pending_at-w.result.col = on_ground c.requires.ready c.requires.stack_stands.0 c.requires.stack_stands.1
-          c.pending_at-w.ensures in held)))
+    let s = c.requires.stack_stands in
+    omega (arith, pending_room c.requires.ready s.0 s.1, s.0.within, s.1)
 
 pub bounds-subaccumulation-row : goal.bounds-subaccumulation-row
-bounds-subaccumulation-row c = omega (arith, indexed c.requires.ready ((let held : OnGround c.args.rows c.args.cols c.args.codes.now c.pending_at-w.result.row c.pending_at-w.result.col = on_ground c.requires.ready c.requires.stack_stands.0 c.requires.stack_stands.1
-          c.pending_at-w.ensures in held)))
-
--- its cells, as its word holds them
-cells_there : (n : goal.After-cells_held-n) → let a = n.args in n.cells_held-n.result
-    ≡ cells_at a.rows a.cols a.codes.now a.outlets.now n.pending_at-w.result.row
-    n.pending_at-w.result.col
-cells_there n = n.cells_held-n.ensures ∙ read n.requires.ready ((let held : OnGround n.args.rows n.args.cols n.args.codes.now n.pending_at-w.result.row n.pending_at-w.result.col = on_ground n.requires.ready n.requires.stack_stands.0 n.requires.stack_stands.1
-          n.pending_at-w.ensures in held))
+bounds-subaccumulation-row c =
+    let s = c.requires.stack_stands in
+    omega (arith, indexed c.requires.ready (on_ground c.requires.ready s.0 s.1 c.pending_at-w.ensures))
 
 pub is_dropped-requires : goal.is_dropped-requires
 is_dropped-requires c =
-    testable c.requires.ready c.requires.stack_stands.0 c.requires.stack_stands.1 c.pending_at-w.ensures (cells_there c)
+    let p = c.requires.ready in
+    let s = c.requires.stack_stands in
+    let e = c.pending_at-w.ensures in
+    testable p s.0 s.1 e (c.cells_held-n.ensures ∙ read p (on_ground p s.0 s.1 e))
 
 pub drop_cells-requires : goal.drop_cells-requires
 drop_cells-requires c =
-    omega (
-      arith,
-      (let held : let a = c.args in c.cells_held-n.result ≡ cells_at a.rows a.cols a.codes.now a.outlets.now c.pending_at-w.result.row c.pending_at-w.result.col = c.cells_held-n.ensures ∙ read c.requires.ready ((let held : OnGround c.args.rows c.args.cols c.args.codes.now c.pending_at-w.result.row c.pending_at-w.result.col = on_ground c.requires.ready c.requires.stack_stands.0 c.requires.stack_stands.1
-                c.pending_at-w.ensures in held)) in held),
-      few_dropped c.requires.ready c.requires.stack_stands.0 c.requires.stack_stands.1 c.pending_at-w.ensures,
-    )
+    let p = c.requires.ready in
+    let s = c.requires.stack_stands in
+    let e = c.pending_at-w.ensures in
+    omega (arith, c.cells_held-n.ensures ∙ read p (on_ground p s.0 s.1 e), few_dropped p s.0 s.1 e)
+
+pub returns-then-is_dropped : goal.returns-then-is_dropped
+returns-then-is_dropped c =
+    let a = c.args in
+    let p = c.requires.ready in
+    let s = c.requires.stack_stands in
+    let e = c.pending_at-w.ensures in
+    turn_dropped p s.0 s.1 e (met_in a.edition a.subaccumulation.now) a.dropping
+    (c.cells_held-n.ensures ∙ read p (on_ground p s.0 s.1 e))
+    c.is_dropped.ensures c.if-is_dropped.true c.drop_cells.ensures
+
+pub enter_cell-requires : goal.enter_cell-requires
+enter_cell-requires c =
+    let p = c.requires.ready in
+    let s = c.requires.stack_stands in
+    let e = c.pending_at-w.ensures in
+    record { ready = p; on_ground = on_ground p s.0 s.1 e; fits = fits p s.0 s.1 e }
+
+pub returns : goal.returns
+returns c =
+    let a = c.args in
+    let p = c.requires.ready in
+    let s = c.requires.stack_stands in
+    let e = c.pending_at-w.ensures in
+    turn_entered p s.0 s.1 e (met_in a.edition a.subaccumulation.now) a.dropping
+    (c.cells_held-n.ensures ∙ read p (on_ground p s.0 s.1 e))
+    c.is_dropped.ensures c.if-is_dropped.false c.enter_cell.ensures c.enter_cell.auto.work

@@ -1,0 +1,68 @@
+-- `writing::put_rows` meets its contract. The loop's invariant: the rows so far are put.
+-- Assumes nothing.
+use mathlib.Core.Path.{◌≡◌, refl, ◌∙◌}
+use Prim.Native.Nat.{ℕ, ◌<◌, ◌+◌, ◌*◌, ◌≤◌}
+use native.Mathlib.Omega.{arith}
+use lib.ListN.{length}
+use borrow.Author.Rules.{rules}
+use Rattle.spelling.specs.Format.{row_records}
+use Rattle.spelling.proofs.Sizes.{next_fits}
+use Rattle.writing.proofs.Puts.{puts_none, puts_then, part_length, rows_next, rows_land}
+use Rattle.writing.proofs.put_rows.Goals as goal
+
+-- the codes of the next row are lent, and it has room in the file
+lent : (row rows cols n : ℕ) → row < rows → rows * cols ≤ n → row * cols + cols ≤ n
+lent row rows cols n t h = omega (arith, next_fits row rows cols t, h)
+
+fits : (at row rows cols n : ℕ) → row < rows → at ≡ 6 + row * (4 + cols) → 6 + rows * (4 + cols) ≤ n
+    → at + (4 + cols) ≤ n
+fits at row rows cols n t e h = omega (arith, next_fits row rows (4 + cols) t, e, h)
+
+pub loop-row-init : goal.loop-row-init
+unfolding row_records
+loop-row-init c = (search rules, refl, puts_none)
+
+pub overflow_mul-start : goal.overflow_mul-start
+overflow_mul-start c =
+    let a = c.args in
+    let l = c.loop-row in
+    omega (arith, lent l.row a.rows a.cols (length a.codes.now) c.loop-row-test.true c.requires.1)
+
+pub overflow_add-end : goal.overflow_add-end
+overflow_add-end c =
+    let a = c.args in
+    let l = c.loop-row in
+    omega (arith, lent l.row a.rows a.cols (length a.codes.now) c.loop-row-test.true c.requires.1)
+
+pub slice_bounds-put_row-end : goal.slice_bounds-put_row-end
+slice_bounds-put_row-end c =
+    let a = c.args in
+    let l = c.loop-row in
+    omega (arith, lent l.row a.rows a.cols (length a.codes.now) c.loop-row-test.true c.requires.1)
+
+pub put_row-here-requires : goal.put_row-here-requires
+put_row-here-requires c =
+    let a = c.args in
+    let l = c.loop-row in
+    let h = lent l.row a.rows a.cols (length a.codes.now) c.loop-row-test.true c.requires.1 in
+    let size = part_length a.cols (l.row * a.cols) a.codes.now h in
+    let at = rows_land a.cols l.row a.codes.now l.invariant.2 (omega (arith, h)) in
+    let room = fits l.here.at l.row a.rows a.cols (length a.file.now) c.loop-row-test.true at c.requires.0 in
+    (omega (arith, room, l.invariant.1, size), search rules)
+
+pub loop-row-preserved : goal.loop-row-preserved
+loop-row-preserved c =
+    let a = c.args in
+    let l = c.loop-row in
+    let p = c.put_row-here in (
+      search rules,
+      p.auto.file ∙ l.invariant.1,
+      rw (rows_next a.cols l.row a.codes.now) (puts_then l.invariant.2 p.ensures),
+    )
+
+pub returns : goal.returns
+returns c =
+    let a = c.args in
+    let l = c.loop-row in
+    let e : l.row ≡ a.rows = omega arith in
+    rw e at l.invariant.2
