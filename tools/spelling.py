@@ -31,6 +31,11 @@ SNAKE = {
     "agreesAt": "agrees_at", "allAbove": "all_above", "allCodes": "all_codes", "cellsAt": "cells_at",
     "isCode": "is_code", "noPlace": "no_place", "oneEach": "one_each",
 }
+# Fields and constructors that would have been called lemmas by the rule below.
+PLAIN = {
+    "lent_grid_lem": "grid_lent", "is_done_lem": "done_is", "no_outlet_lem": "not_outlet", "is_outlet_lem": "outlet_is",
+    "is_end_lem": "end_is", "in_numbers_lem": "numbers_in", "flow_lengths_lem": "flow_lengths_told",
+}
 WORDS = {"module", "use", "let", "where", "unfolding", "open", "in", "mod", "pub", "elim", "rw", "abbrev", "unfoldable"}
 
 
@@ -76,7 +81,7 @@ def names():
             if meets(new):
                 raise SystemExit(f"{name}: {new} is taken too")
         turned[name] = new
-    return turned | SNAKE, kept
+    return {old: PLAIN.get(new, new) for old, new in (turned | SNAKE).items()}, kept
 
 
 def turn(text, turned):

@@ -72,9 +72,9 @@ module _ (c : Catchment) (lent : List ℕ)
   beyond = beyond_agreed c.grid lent c.accumulation
       (check15 outlets ∷ check16 c.grid outlets ∷ check17 outlets ∷ []) z
 
-  pub no_outlet_lem : length outlets < 1 → 15 ≡ outlet_number
+  pub not_outlet : length outlets < 1 → 15 ≡ outlet_number
   unfolding first_failed check15
-  no_outlet_lem h = sym (beyond ∙ rw (lt-leb 1 (length outlets) h))
+  not_outlet h = sym (beyond ∙ rw (lt-leb 1 (length outlets) h))
 
   module _ (h : 1 ≤ length outlets) where
     pub too_many : 256 < length outlets → 15 ≡ outlet_number

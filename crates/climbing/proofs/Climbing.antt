@@ -173,15 +173,15 @@ module _ {rows cols : ℕ} {codes outlets : List ℕ} {old : LengthGrids} (can :
       marked c e = omega (arith, at.climbing.given.marked c e)
 
       -- its mark tells whether it is an outlet
-      pub is_outlet_lem : 2 ^ 31 ≤ get_or dd x 0 → is_outlet land outlets x ≡ true
-      is_outlet_lem m = go (is_outlet land outlets x) refl
+      pub outlet_is : 2 ^ 31 ≤ get_or dd x 0 → is_outlet land outlets x ≡ true
+      outlet_is m = go (is_outlet land outlets x) refl
         where
           go : (b : Bool) → is_outlet land outlets x ≡ b → is_outlet land outlets x ≡ true
           go true e = e
           go false e = absurd (omega (arith, at.climbing.given.unmarked x x_inside e))
 
-      pub no_outlet_lem : get_or dd x 0 < 2 ^ 31 → is_outlet land outlets x ≡ false
-      no_outlet_lem m = go (is_outlet land outlets x) refl
+      pub not_outlet : get_or dd x 0 < 2 ^ 31 → is_outlet land outlets x ≡ false
+      not_outlet m = go (is_outlet land outlets x) refl
         where
           go : (b : Bool) → is_outlet land outlets x ≡ b → is_outlet land outlets x ≡ false
           go true e = absurd (omega (arith, marked x e))
@@ -208,7 +208,7 @@ module _ {rows cols : ℕ} {codes outlets : List ℕ} {old : LengthGrids} (can :
               → Resting (grid_of rows cols codes) outlets (j + 1) (length_grids ds dd us ud)
           resting_on in_List m = record {
             traversal = leaving (next land) (is_outlet land outlets) t x k at.climbing.here ahead;
-            given = given_left land outlets at.climbing.given at.climbing.here ahead (is_outlet_lem m);
+            given = given_left land outlets at.climbing.given at.climbing.here ahead (outlet_is m);
             are_left = λ c e. left c (member c (take j outlets)) refl (sym (member_next outlets j in_List c) ∙ e);
             are_begun = at.climbing.are_begun;
           }
@@ -221,7 +221,7 @@ module _ {rows cols : ℕ} {codes outlets : List ℕ} {old : LengthGrids} (can :
 
               x_is : get_or outlets j 0 ≡ x
               x_is = it (member x (take j outlets)) refl
-                  (sym (member_next outlets j in_List x) ∙ at.climbing.are_begun x (is_outlet_lem m)
+                  (sym (member_next outlets j in_List x) ∙ at.climbing.are_begun x (outlet_is m)
                   at.climbing.here.is_entered)
 
               left : (c : ℕ) (b : Bool) → member c (take j outlets) ≡ b → (b || eqb (get_or outlets j 0) c) ≡ true
@@ -233,7 +233,7 @@ module _ {rows cols : ℕ} {codes outlets : List ℕ} {old : LengthGrids} (can :
           module _ (m : get_or dd x 0 < 2 ^ 31) where
             pub has_next : HasNext (grid_of rows cols codes) x
             has_next =
-                let b = t.has_below x at.climbing.here.is_entered (no_outlet_lem m) in
+                let b = t.has_below x at.climbing.here.is_entered (not_outlet m) in
                 (record { cell = b.0; step = opposite b.1 }, b.2.flows)
 
             module _ {p : ℕ} {s : Dir} (to : next (grid_of rows cols codes) x ≡ some (record { cell = p; step = s }))
@@ -243,7 +243,7 @@ module _ {rows cols : ℕ} {codes outlets : List ℕ} {old : LengthGrids} (can :
 
                 small : get_or us x 0 + get_or ud x 0 < 2 ^ 24
                 small = up_small land outlets can.accumulation can.agreement few at.climbing.given
-                    at.climbing.here ahead to (no_outlet_lem m)
+                    at.climbing.here ahead to (not_outlet m)
 
                 pub countable_up : Countable x p us ud
                 countable_up = record {
@@ -285,9 +285,9 @@ module _ {rows cols : ℕ} {codes outlets : List ℕ} {old : LengthGrids} (can :
                             (leaving (next land) (is_outlet land outlets) t x k at.climbing.here ahead) p)
                             (sym is_turn)
                             (leaving_here (next land) (is_outlet land outlets) t x k at.climbing.here ahead p s to
-                            (no_outlet_lem m) (one_each_lem land outlets p));
+                            (not_outlet m) (one_each_lem land outlets p));
                         given = given_down land outlets can.accumulation can.agreement few at.climbing.given
-                            at.climbing.here ahead to (no_outlet_lem m) room_now.up_straight room_now.up_diagonal
+                            at.climbing.here ahead to (not_outlet m) room_now.up_straight room_now.up_diagonal
                             f';
                         are_left = λ c e. also_in t.left x c (at.climbing.are_left c e);
                         are_begun = at.climbing.are_begun;
@@ -300,14 +300,14 @@ module _ {rows cols : ℕ} {codes outlets : List ℕ} {old : LengthGrids} (can :
                     let h : Link Dir = record { cell = p; step = s } in
                     let e : t.entered p ≡ true = t.from_below p (opposite s) x (record {
                       flows = to ∙ ap (λ (q : Dir). some (record { cell = p; step = q })) (sym (opposite_twice s));
-                      no_outlet_lem = no_outlet_lem m;
+                      not_outlet = not_outlet m;
                     }) at.climbing.here.is_entered in
                     let a = at.climbing.given.arrived x at.climbing.here.is_entered in
                     let b = at.climbing.given.arrived p e in
                     let q : ◌≡◌ {A = Option (At Length)} (some (record { cell = a.outlet; len = down_at now x }))
                     (some (record { cell = b.outlet; len = plus_step (down_at now p) (step_of s) })) = sym a.arrives
                     ∙ arrival_up land can.accumulation can.agreement outlets x h
-                    (record { cell = b.outlet; len = down_at now p }) (no_outlet_lem m) to b.arrives in
+                    (record { cell = b.outlet; len = down_at now p }) (not_outlet m) to b.arrives in
                     let l : down_at now x ≡ plus_step (down_at now p) (step_of s) =
                     ap (λ (o : Option (At Length)). elim o [ none ↦ counts 0 0 | some z ↦ z.len ]) q in
                     omega (
@@ -377,7 +377,7 @@ module _ {rows cols : ℕ} {codes outlets : List ℕ} {old : LengthGrids} (can :
                       at.climbing.here u far skipped room_now.down_straight room_now.down_diagonal;
                   are_left = at.climbing.are_left;
                   are_begun = λ c o e. also_or (member c (take (j + 1) outlets) ≡ true) t.entered y c e
-                      (λ q. absurd (true≢false (sym o ∙ ap (is_outlet land outlets) q ∙ u.no_outlet_lem)))
+                      (λ q. absurd (true≢false (sym o ∙ ap (is_outlet land outlets) q ∙ u.not_outlet)))
                       (at.climbing.are_begun c o);
                 };
               })
@@ -402,7 +402,7 @@ module _ {rows cols : ℕ} {codes outlets : List ℕ} {old : LengthGrids} (can :
                   let v = at.climbing.given in
                   let fresh : t.entered y ≡ false = at.climbing.here.ahead (dir_at r) y u far in
                   let s : get_or ds y 0 + get_or dd y 0 ≡ 0 = omega
-                  (arith, v.no_straight y y_inside fresh, v.no_diagonal y y_inside fresh u.no_outlet_lem) in
+                  (arith, v.no_straight y y_inside fresh, v.no_diagonal y y_inside fresh u.not_outlet) in
                   many_more (λ c. eqb (get_or ds' c 0 + get_or dd' c 0) 0) (λ c. eqb (get_or ds c 0 + get_or dd c 0) 0)
                   (rows * cols) y
                   y_inside (ne_eqb (get_or ds' y 0 + get_or dd' y 0) 0 (λ q. omega (arith, straight_y, diagonal_y, own_is)))

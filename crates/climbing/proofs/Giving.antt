@@ -85,9 +85,9 @@ module _ (g : Grid) (outlets : List ℕ) where
 
   module _ {t : Tour} {lent : LengthGrids} (v : Given g outlets t lent) where
     -- ---- AN OUTLET IS BEGUN
-    pub given_begun : (o : ℕ) (is_outlet_lem : is_outlet g outlets o ≡ true) (fresh : t.entered o ≡ false) → o < cell_count g
-        → Given g outlets (begun (next g) (is_outlet g outlets) t o is_outlet_lem fresh) lent
-    given_begun o is_outlet_lem fresh inside = record {
+    pub given_begun : (o : ℕ) (outlet_is : is_outlet g outlets o ≡ true) (fresh : t.entered o ≡ false) → o < cell_count g
+        → Given g outlets (begun (next g) (is_outlet g outlets) t o outlet_is fresh) lent
+    given_begun o outlet_is fresh inside = record {
       arrived = λ c e. also_or (Arrived g outlets lent c) t.entered o c e
           (λ q. subst (Arrived g outlets lent) (sym q) at_o)
           (v.arrived c);
@@ -99,12 +99,12 @@ module _ (g : Grid) (outlets : List ℕ) where
     }
       where
         none : down_at lent o ≡ counts 0 0
-        none = ap₂ counts (v.no_straight o inside fresh) (ap (λ (n : ℕ). n % 2 ^ 31) (v.marked o is_outlet_lem))
+        none = ap₂ counts (v.no_straight o inside fresh) (ap (λ (n : ℕ). n % 2 ^ 31) (v.marked o outlet_is))
 
         at_o : Arrived g outlets lent o
         at_o = record {
           outlet = o;
-          arrives = arrival_outlet g outlets o is_outlet_lem
+          arrives = arrival_outlet g outlets o outlet_is
               ∙ ap (λ (l : Length). some (record { cell = o; len = l })) (sym none);
         }
 
@@ -112,14 +112,14 @@ module _ (g : Grid) (outlets : List ℕ) where
     pub given_left : {x k : ℕ} (here : Here (next g) (is_outlet g outlets) t x k)
         (over : (e : Dir) (z : ℕ) → Trib x e z → k ≤ place_of e → ⊥) → is_outlet g outlets x ≡ true
         → Given g outlets (leaving (next g) (is_outlet g outlets) t x k here over) lent
-    given_left {x} {k} here over is_outlet_lem = record {
+    given_left {x} {k} here over outlet_is = record {
       arrived = v.arrived;
       no_straight = v.no_straight;
       no_diagonal = v.no_diagonal;
       marked = v.marked;
       unmarked = v.unmarked;
       reached = λ c i. greatest_other g outlets (v.reached c i) x
-          (λ d u. true≢false (sym is_outlet_lem ∙ u.no_outlet_lem));
+          (λ d u. true≢false (sym outlet_is ∙ u.not_outlet));
     }
 
   -- where an accumulation agrees, and the grids have room
@@ -140,7 +140,7 @@ module _ (g : Grid) (outlets : List ℕ) where
 
         arrives_y : arrival g outlets y ≡ some (record { cell = at_x.outlet; len = own })
         arrives_y = arrival_up g a h outlets y (record { cell = x; step = opposite d })
-            (record { cell = at_x.outlet; len = length_below ds dd x }) u.no_outlet_lem u.flows at_x.arrives
+            (record { cell = at_x.outlet; len = length_below ds dd x }) u.not_outlet u.flows at_x.arrives
 
         own_small : own.straight + own.diagonal ≤ 2 ^ 24
         own_small = omega
@@ -176,7 +176,7 @@ module _ (g : Grid) (outlets : List ℕ) where
                 (λ w. other c n (v.arrived c w)));
             no_straight = λ c i e. straight_other c (apart c e) ∙ v.no_straight c i (also_out t.entered y c e);
             no_diagonal = λ c i e n. diagonal_other c (apart c e) ∙ v.no_diagonal c i (also_out t.entered y c e) n;
-            marked = λ c m. diagonal_other c (λ q. true≢false (sym m ∙ ap (is_outlet g outlets) q ∙ u.no_outlet_lem))
+            marked = λ c m. diagonal_other c (λ q. true≢false (sym m ∙ ap (is_outlet g outlets) q ∙ u.not_outlet))
                 ∙ v.marked c m;
             unmarked = λ c i n. places (get_or (set dd y own.diagonal) c 0 < 2 ^ 31) c y
                 (λ q. rw q (omega (arith, diagonal_y, own_small)))
@@ -236,7 +236,7 @@ module _ (g : Grid) (outlets : List ℕ) where
         it : Trib p (opposite s) x
         it = record {
           flows = to ∙ ap (λ (e : Dir). some (record { cell = p; step = e })) (sym back);
-          no_outlet_lem = inner;
+          not_outlet = inner;
         }
 
         abbrev longer : Length

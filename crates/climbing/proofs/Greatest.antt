@@ -102,7 +102,7 @@ module _ (g : Grid) (outlets : List ℕ) where
             let s : f.step ≡ opposite (opposite f.step) = sym (opposite_twice f.step) in
             let u : Trib c (opposite f.step) f.cell = record {
               flows = f.flows ∙ ap (λ (d : Dir). some (record { cell = c; step = d })) s;
-              no_outlet_lem = f.no_outlet_lem;
+              not_outlet = f.not_outlet;
             } in
             ap (is_shorter l) (f.is_length ∙ ap (λ (d : Dir). plus_step (upstream_length g outlets f.cell)
             (step_of d)) s)
@@ -112,4 +112,4 @@ module _ (g : Grid) (outlets : List ℕ) where
         no_more (inl e) = ap (is_shorter (upstream_length g outlets c)) e ∙ none_shorter (upstream_length g outlets c)
         no_more (inr f) = ap (is_shorter (upstream_length g outlets c)) f.is_length
             ∙ upstream_bound g a h outlets f.cell (record { cell = c; step = opposite f.dir }) f.flows.flows
-            f.flows.no_outlet_lem
+            f.flows.not_outlet

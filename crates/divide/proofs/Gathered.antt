@@ -24,13 +24,13 @@ module _ {rows cols place : ℕ} {codes outlets grid list : List ℕ}
 
   pub can_gather : CanGather rows cols codes outlets row col grid list
   can_gather = record {
-    lent_grid_lem = can.lent_grid_lem;
+    grid_lent = can.grid_lent;
     accumulation = can.accumulation;
     agreed = can.agreed;
     row_in = row_inside cell (ground_within (grid_of rows cols codes) (get_or outlets place 0) can.solid);
     col_in = cell.col_in;
     solid = outlet_solid;
-    is_outlet_lem = ap (λ (x : ℕ). member x outlets) cell.is_number ∙ member_at outlets place can.in_list;
+    outlet_is = ap (λ (x : ℕ). member x outlets) cell.is_number ∙ member_at outlets place can.in_list;
     noted = can.noted;
     room = subst (λ (x : ℕ). subaccumulation (grid_of rows cols codes) outlets x ≤ length list)
         (sym cell.is_number) can.room;

@@ -47,7 +47,7 @@ pub record HasWords (rows cols : ℕ) (codes grid : List ℕ) (row col : ℕ) : 
 
 -- listed cells of a grid with a word for each cell
 pub record HasList (rows cols : ℕ) (codes grid list : List ℕ) (n : ℕ) : Type 0 where
-  pub lent_grid_lem : LentGrid rows cols codes
+  pub grid_lent : LentGrid rows cols codes
   pub has_room : rows * cols ≤ length grid
   pub on_list : OnList rows cols list n
 
@@ -62,7 +62,7 @@ LeavesCells rows cols n list = Changes without_inside (rows * cols) (λ x. membe
 
 -- an outlet at a place of the list, a grid with the outlets noted and no cell inside, and room for the outlet's cells
 pub record CanNote (rows cols : ℕ) (codes outlets : List ℕ) (place : ℕ) (grid list : List ℕ) : Type 0 where
-  pub lent_grid_lem : LentGrid rows cols codes
+  pub grid_lent : LentGrid rows cols codes
   pub some_cols : 0 < cols
   pub accumulation : List ℕ
   pub agreed : agrees (grid_of rows cols codes) accumulation ≡ true

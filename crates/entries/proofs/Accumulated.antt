@@ -13,7 +13,7 @@ use Rattle.answers.specs.Drawing.{draw_number}
 use Rattle.answers.proofs.Judged.{no_14}
 use Rattle.alloutlets.specs.AllOutlets.{trace_all_number}
 use Rattle.alloutlets.proofs.AllOutlets.{number_is}
-use Rattle.entries.specs.Judging.{Answered, check_accumulation, subaccumulate, flow_lengths_lem, trace_by_recursion}
+use Rattle.entries.specs.Judging.{Answered, check_accumulation, subaccumulate, flow_lengths_told, trace_by_recursion}
 use Rattle.entries.specs.Judging.{trace_by_stack, trace_all, draw, drawing_number}
 
 module _ (g : Grid) {old left : List ℕ} (a : Accumulates g old 0 left) (outlets : List ℕ) where
@@ -25,7 +25,7 @@ module _ (g : Grid) {old left : List ℕ} (a : Accumulates g old 0 left) (outlet
       check16 check17 check18 check19 check20 check21 check22 check23 check25
   never_14 (check_accumulation t) e = no_14 g a [] _ [] refl refl (sym t ∙ e)
   never_14 (subaccumulate t) e = no_14 g a [] _ _ refl refl (sym t.answers ∙ e)
-  never_14 (flow_lengths_lem t) e = no_14 g a [] _ _ refl refl (sym t.answers ∙ e)
+  never_14 (flow_lengths_told t) e = no_14 g a [] _ _ refl refl (sym t.answers ∙ e)
   never_14 (trace_by_recursion {e = edition} t) e = no_14 g a (check25 edition ∷ []) _ _ refl refl (sym t.numbered ∙ e)
   never_14 (trace_by_stack {e = edition} t) e = no_14 g a (check25 edition ∷ []) _ _ refl refl (sym t.traces.numbered ∙ e)
   never_14 (trace_all {e = edition} t) e = no_14 g a (check25 edition ∷ []) _ _ refl refl (number_is _ _ _ t e)

@@ -22,7 +22,7 @@ module _ (c : Catchment) where
   pub data Answered : ℕ → Type 0 where
     check_accumulation : {n : ℕ} → n ≡ check_number c.grid c.accumulation → Answered n
     subaccumulate : {n : ℕ} {old new : List ℕ} → Subaccumulates c old n new → Answered n
-    flow_lengths_lem : {n : ℕ} {old new : LengthGrids} → TellsFlowLengths c old n new → Answered n
+    flow_lengths_told : {n : ℕ} {old new : LengthGrids} → TellsFlowLengths c old n new → Answered n
     trace_by_recursion : {e p : ℕ} {d : Bool} {old new : Lent} {r : Traced}
         → TracesByRecursion (called e p d) old r new → Answered (number_of r.answer)
     trace_by_stack : {e p : ℕ} {d : Bool} {old new : Lent} {work space : List ℕ} {r : Traced}

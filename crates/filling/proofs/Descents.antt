@@ -201,7 +201,7 @@ module _ {g : Grid} {outlets : List ℕ} {i done : ℕ} where
     is_at = λ r c a e. absurd (end_to e);
     row_in = λ r c a e. absurd (end_to e);
     col_in = λ r c a e. absurd (end_to e);
-    is_done_lem = λ e. p;
+    done_is = λ e. p;
     kept = k;
   }
 
@@ -212,7 +212,7 @@ module _ {g : Grid} {outlets : List ℕ} {i done : ℕ} where
     is_at = λ x y a e. let q : at ≡ a = cc in let t : row * g.cols + col ≡ x * g.cols + y = cc in omega arith;
     row_in = λ x y a e. let q : row ≡ x = cc in omega arith;
     col_in = λ x y a e. let q : col ≡ y = cc in omega arith;
-    is_done_lem = λ e. absurd (end_to (sym e));
+    done_is = λ e. absurd (end_to (sym e));
     kept = k;
   }
 
@@ -235,7 +235,7 @@ module _ {g : Grid} {outlets : List ℕ} {i done : ℕ} where
     is_at = p.going.is_at;
     row_in = p.going.row_in;
     col_in = p.going.col_in;
-    is_done_lem = p.going.is_done_lem;
+    done_is = p.going.done_is;
     kept = kept_then a.kept p.going.kept;
   }
 

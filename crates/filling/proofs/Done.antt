@@ -29,7 +29,7 @@ module _ {ground : ℕ → Bool} {cell_count : ℕ} where
   -- nothing is done
   pub tally_none : Tally ground cell_count (λ x. false) 0 0
   unfolding how_many
-  tally_none = record { only_ground = λ x e. absurd (true≢false (sym e)); is_done_lem = none cell_count }
+  tally_none = record { only_ground = λ x e. absurd (true≢false (sym e)); done_is = none cell_count }
     where
       none : (n : ℕ) → how_many (is_done ground (λ x. false) 0) n ≡ 0
       none zero = refl
@@ -37,7 +37,7 @@ module _ {ground : ℕ → Bool} {cell_count : ℕ} where
 
   module _ {passed : ℕ → Bool} {looked done : ℕ} (t : Tally ground cell_count passed looked done) where
     pub tally_le : done ≤ cell_count
-    tally_le = omega (arith, t.is_done_lem, many_le (is_done ground passed looked) cell_count)
+    tally_le = omega (arith, t.done_is, many_le (is_done ground passed looked) cell_count)
 
     -- a cell of ground is looked at, or a null cell
     other : (x : ℕ) → (x ≡ looked → ⊥) → is_done ground passed (suc looked) x ≡ is_done ground passed looked x
@@ -46,8 +46,8 @@ module _ {ground : ℕ → Bool} {cell_count : ℕ} where
     pub tally_ground : ground looked ≡ true → Tally ground cell_count passed (suc looked) done
     tally_ground v = record {
       only_ground = t.only_ground;
-      is_done_lem = many_same (is_done ground passed looked) (is_done ground passed (suc looked)) cell_count
-          (λ x l. go x (eqb x looked) refl) ∙ t.is_done_lem;
+      done_is = many_same (is_done ground passed looked) (is_done ground passed (suc looked)) cell_count
+          (λ x l. go x (eqb x looked) refl) ∙ t.done_is;
     }
       where
         here : is_done ground passed (suc looked) looked ≡ is_done ground passed looked looked
@@ -61,9 +61,9 @@ module _ {ground : ℕ → Bool} {cell_count : ℕ} where
     pub tally_null : looked < cell_count → ground looked ≡ false → Tally ground cell_count passed (suc looked) (suc done)
     tally_null h v = record {
       only_ground = t.only_ground;
-      is_done_lem = many_more (is_done ground passed looked) (is_done ground passed (suc looked)) cell_count looked h
+      done_is = many_more (is_done ground passed looked) (is_done ground passed (suc looked)) cell_count looked h
           (rw (fresh, le-ltb looked looked (omega arith))) (rw (v, lt-ltb looked (suc looked) (omega arith))
-          (or-true (passed looked))) other ∙ ap suc t.is_done_lem;
+          (or-true (passed looked))) other ∙ ap suc t.done_is;
     }
       where
         fresh : passed looked ≡ false
@@ -78,11 +78,11 @@ module _ {ground : ℕ → Bool} {cell_count : ℕ} where
         → Tally ground cell_count (also passed y) looked (suc done)
     tally_passed {y} h v fresh = record {
       only_ground = λ x e. go x e (eqb x y) refl;
-      is_done_lem = many_more (is_done ground passed looked) (is_done ground (also passed y) looked) cell_count y h
+      done_is = many_more (is_done ground passed looked) (is_done ground (also passed y) looked) cell_count y h
           (rw (fresh, v) (and-false (ltb y looked)))
           (ap (λ (b : Bool). b || (ltb y looked && not (ground y))) (also_same passed y y refl))
           (λ x n. ap (λ (b : Bool). b || (ltb x looked && not (ground x))) (also_other passed y x n))
-          ∙ ap suc t.is_done_lem;
+          ∙ ap suc t.done_is;
     }
       where
         go : (x : ℕ) → also passed y x ≡ true → (b : Bool) → eqb x y ≡ b → ground x ≡ true
@@ -92,7 +92,7 @@ module _ {ground : ℕ → Bool} {cell_count : ℕ} where
   -- when every cell is looked at: all cells are done exactly if every cell of ground is passed down
   module _ {passed : ℕ → Bool} {done : ℕ} (t : Tally ground cell_count passed cell_count done) where
     pub tally_all : ((x : ℕ) → ground x ≡ true → passed x ≡ true) → done ≡ cell_count
-    tally_all h = sym t.is_done_lem ∙ many_all (is_done ground passed cell_count) cell_count (λ x l. go x l (ground x) refl)
+    tally_all h = sym t.done_is ∙ many_all (is_done ground passed cell_count) cell_count (λ x l. go x l (ground x) refl)
       where
         go : (x : ℕ) → x < cell_count → (b : Bool) → ground x ≡ b → is_done ground passed cell_count x ≡ true
         go x l true v = rw (h x v)
@@ -100,5 +100,5 @@ module _ {ground : ℕ → Bool} {cell_count : ℕ} where
 
     pub tally_full : done ≡ cell_count → (x : ℕ) → x < cell_count → ground x ≡ true → passed x ≡ true
     tally_full e x l v =
-        let d = many_full (is_done ground passed cell_count) cell_count (t.is_done_lem ∙ e) x l in
+        let d = many_full (is_done ground passed cell_count) cell_count (t.done_is ∙ e) x l in
         sym (or-false (passed x)) ∙ sym (ap (λ (b : Bool). passed x || b) (and-false (ltb x cell_count))) ∙ rw v at d

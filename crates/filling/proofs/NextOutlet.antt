@@ -29,14 +29,14 @@ use Rattle.filling.proofs.Outlets.{flows_ground}
 -- the outlet at place j comes next
 pub record Next (rows cols : ℕ) (codes outlets l : List ℕ) (j o : ℕ) : Type 0 where
   pub fillable : Fillable rows cols codes outlets l
-  pub is_outlet_lem : o ≡ get_or outlets j 0
+  pub outlet_is : o ≡ get_or outlets j 0
   pub in_list : j < length outlets
   pub flagged : Flagged (grid_of rows cols codes) outlets l j
 
 pub the_next : {rows cols : ℕ} {codes outlets l : List ℕ} {j o : ℕ}
     → Fillable rows cols codes outlets l × (j < length outlets) → Flagged (grid_of rows cols codes) outlets l j
     → o ≡ get_or outlets j 0 → Next rows cols codes outlets l j o
-the_next f g e = record { fillable = f.0; is_outlet_lem = e; in_list = f.1; flagged = g }
+the_next f g e = record { fillable = f.0; outlet_is = e; in_list = f.1; flagged = g }
 
 module _ {rows cols : ℕ} {codes outlets l : List ℕ} {j o : ℕ} (n : Next rows cols codes outlets l j o) where
   abbrev land : Grid
@@ -55,13 +55,13 @@ module _ {rows cols : ℕ} {codes outlets l : List ℕ} {j o : ℕ} (n : Next ro
           ∙ sym (member_more outlets j n.in_list c)
         where
           s' : c ≡ get_or outlets j 0
-          s' = eqb-true c o e ∙ n.is_outlet_lem
+          s' = eqb-true c o e ∙ n.outlet_is
       same c false e = ap (λ (b : Bool). out c || b)
-          (e ∙ sym (ne_eqb (get_or outlets j 0) c (λ q. eqb-false c o e (sym q ∙ sym n.is_outlet_lem))))
+          (e ∙ sym (ne_eqb (get_or outlets j 0) c (λ q. eqb-false c o e (sym q ∙ sym n.outlet_is))))
           ∙ sym (member_more outlets j n.in_list c)
 
   o_ground : ground land o ≡ true
-  o_ground = ap (ground land) n.is_outlet_lem ∙ n.fillable.on_ground j n.in_list
+  o_ground = ap (ground land) n.outlet_is ∙ n.fillable.on_ground j n.in_list
 
   pub o_inside : o < rows * cols
   o_inside = ground_within land o o_ground

@@ -68,7 +68,7 @@ module _ (g : Grid) (outlets : List ℕ) where
     pub is_at : (row col at : ℕ) → r ≡ To row col at → at ≡ row * g.cols + col
     pub row_in : (row col at : ℕ) → r ≡ To row col at → row < g.rows
     pub col_in : (row col at : ℕ) → r ≡ To row col at → col < g.cols
-    pub is_done_lem : r ≡ End → Looked new looked done
+    pub done_is : r ≡ End → Looked new looked done
     pub kept : Kept (cell_count g) old new
 
   -- what one step down leaves: where the way goes on, the words add up to less

@@ -23,7 +23,7 @@ is_done ground passed looked x = passed x || (ltb x looked && not (ground x))
 -- so many cells are done, and none but cells of ground are passed down
 pub record Tally (ground : ℕ → Bool) (cell_count : ℕ) (passed : ℕ → Bool) (looked done : ℕ) : Type 0 where
   pub only_ground : (x : ℕ) → passed x ≡ true → ground x ≡ true
-  pub is_done_lem : how_many (is_done ground passed looked) cell_count ≡ done
+  pub done_is : how_many (is_done ground passed looked) cell_count ≡ done
 
 module _ {S : Type 0} (ups : ℕ → List (Link S)) where
   -- how many inflows of a cell are not yet passed down

@@ -2,6 +2,7 @@
 // in no memory but the four grids. Below the entry, ds and dd are the grids of straight and diagonal steps downstream,
 // us and ud those upstream.
 #![tactic(auto)]
+
 ghost use Rattle.std.specs.Prelude.{◌≡◌};
 ghost use Rattle.ground.specs.Grid.{grid_of};
 ghost use Rattle.answers.specs.Entries.{catchment};

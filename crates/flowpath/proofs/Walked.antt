@@ -25,7 +25,7 @@ module _ {S : Type 0} (next : ℕ → Option (Link S)) (outlet : ℕ → Bool) w
     some_cell = omega arith;
     begins = refl;
     flows = λ k h. absurd (omega (arith, h));
-    no_outlet_lem = λ k h. absurd (omega (arith, h));
+    not_outlet = λ k h. absurd (omega (arith, h));
     arrives = refl;
   }
 
@@ -36,7 +36,7 @@ module _ {S : Type 0} (next : ℕ → Option (Link S)) (outlet : ℕ → Bool) w
     some_cell = omega arith;
     begins = refl;
     flows = flows_on;
-    no_outlet_lem = none_on;
+    not_outlet = none_on;
     arrives = ends cells p.some_cell p.arrives;
   }
     where
@@ -47,7 +47,7 @@ module _ {S : Type 0} (next : ℕ → Option (Link S)) (outlet : ℕ → Bool) w
 
       none_on : (k : ℕ) → suc k < length (c ∷ cells) → outlet (get_or (c ∷ cells) k 0) ≡ false
       none_on zero i = v
-      none_on (suc k) i = p.no_outlet_lem k (omega arith)
+      none_on (suc k) i = p.not_outlet k (omega arith)
 
       ends : (xs : List ℕ) → 0 < length xs → get_or xs (length xs - 1) 0 ≡ o → get_or (c ∷ xs) (length (c ∷ xs) - 1) 0 ≡ o
       ends [] i q = absurd (omega arith)

@@ -14,7 +14,7 @@ pub record FlowPath {S : Type 0} (step : ℕ → Option (Link S)) (outlet : ℕ 
   pub begins : get_or cells 0 0 ≡ c
   pub flows : (k : ℕ) → suc k < length cells
       → (s : S) × (step (get_or cells k 0) ≡ some (record { cell = get_or cells (suc k) 0; step = s }))
-  pub no_outlet_lem : (k : ℕ) → suc k < length cells → outlet (get_or cells k 0) ≡ false
+  pub not_outlet : (k : ℕ) → suc k < length cells → outlet (get_or cells k 0) ≡ false
   pub arrives : get_or cells (length cells - 1) 0 ≡ o
 
 -- the outlet that a drawing asks for

@@ -45,12 +45,12 @@ module _ {rows cols : ℕ} {codes outlets : List ℕ} {row col : ℕ} {grid list
   outlet = record {
     accumulation = can.accumulation;
     agreed = can.agreed;
-    is_outlet_lem = can.is_outlet_lem;
+    outlet_is = can.outlet_is;
     solid = can.solid;
   }
 
   pub outlet_placed : Placed rows cols row col grid
-  outlet_placed = placed can.lent_grid_lem.sides can.row_in can.col_in can.noted.has_room
+  outlet_placed = placed can.grid_lent.sides can.row_in can.col_in can.noted.has_room
 
   some_cells : 1 ≤ subaccumulation g outlets o
   some_cells = omega (arith, sub_size g can.accumulation can.agreed outlets o can.solid)
@@ -70,7 +70,7 @@ module _ {rows cols : ℕ} {codes outlets : List ℕ} {row col : ℕ} {grid list
     within = omega arith;
     row_in = λ i h. absurd (omega arith);
     col_in = λ i h. absurd (omega arith);
-  }) some_room can.row_in can.col_in can.lent_grid_lem.sides.cols_small
+  }) some_room can.row_in can.col_in can.grid_lent.sides.cols_small
 
   outlet_entered : Enters (rows * cols) (o ∷ []) grid grid₁
   outlet_entered = enter_one outlet_placed.inside can.noted.has_room
@@ -129,7 +129,7 @@ module _ {rows cols : ℕ} {codes outlets : List ℕ} {row col : ℕ} {grid list
         pub can_follow : CanFollow rows cols codes outlets (cell / 4096) (cell % 4096) n grid' list'' (length more)
         can_follow = record {
           on = record {
-            grid = can.lent_grid_lem;
+            grid = can.grid_lent;
             row_in = rw newest.number (now_next.on_list.row_in k h);
             col_in = rw newest.number (now_next.on_list.col_in k h);
           };

@@ -46,7 +46,7 @@ sum_split f k xs = sym (sum_append f (take k xs) (drop k xs))
 pub record Outlet (g : Grid) (outlets : List ℕ) (o : ℕ) : Type 0 where
   pub accumulation : List ℕ
   pub agreed : agrees g accumulation ≡ true
-  pub is_outlet_lem : member o outlets ≡ true
+  pub outlet_is : member o outlets ≡ true
   pub solid : ground g o ≡ true
 
 -- a cell of ground inside the subwatershed of o
@@ -72,7 +72,7 @@ module _ {g : Grid} {outlets : List ℕ} {o : ℕ} (out : Outlet g outlets o) wh
   unfolding in_subwatershed
   outlet_inside = record {
     belongs = belongs_true squares (next g) (is_outlet g outlets) (cell_count g) o o squares.start
-        (first_out squares (next g) (is_outlet g outlets) (cell_count g) o out.is_outlet_lem);
+        (first_out squares (next g) (is_outlet g outlets) (cell_count g) o out.outlet_is);
     solid = out.solid;
   }
 
@@ -83,10 +83,10 @@ module _ {g : Grid} {outlets : List ℕ} {o : ℕ} (out : Outlet g outlets o) wh
       let j = joins g outlets x h.solid y i in
       let r = true_belongs squares (next g) (is_outlet g outlets) (cell_count g) o x h.belongs in
       record {
-        belongs = (inside_test g out.accumulation out.agreed outlets o out.is_outlet_lem out.solid y).0
+        belongs = (inside_test g out.accumulation out.agreed outlets o out.outlet_is out.solid y).0
             (first_meets squares (next g) (is_outlet g outlets) (suc (cell_count g)) y _
             (first_next squares (next g) (is_outlet g outlets) (cell_count g) y (record { cell = x; step = j.step })
-            j.no_outlet_lem j.flows ∙ ap (longer squares j.step) r.1));
+            j.not_outlet j.flows ∙ ap (longer squares j.step) r.1));
         solid = (𝓝 g).solid y (record { cell = x; step = j.step }) j.flows;
       }
 

@@ -107,7 +107,7 @@ module _ (g : Grid) (outlets : List ℕ) (x : ℕ) where
   pub record Joins (y : ℕ) : Type 0 where
     pub step : Dir
     pub flows : next g y ≡ some (record { cell = x; step = step })
-    pub no_outlet_lem : member y outlets ≡ false
+    pub not_outlet : member y outlets ≡ false
 
   pub joins : ground g x ≡ true → (y : ℕ) → In y (from dirs) → Joins y
   joins v y i =
@@ -116,7 +116,7 @@ module _ (g : Grid) (outlets : List ℕ) (x : ℕ) where
       record {
         step = opposite p.0;
         flows = inflow_next g x p.0 y v f.there f.flows;
-        no_outlet_lem = f.no_outlet_lem;
+        not_outlet = f.not_outlet;
       }
 
 -- and each that does is one

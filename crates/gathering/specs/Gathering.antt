@@ -73,13 +73,13 @@ pub record NewestFirst (k n : ℕ) (list : List ℕ) (r : ℕ) (list' : List ℕ
 
 -- an outlet of the list, with room for the cells of its subwatershed
 pub record CanGather (rows cols : ℕ) (codes outlets : List ℕ) (row col : ℕ) (grid list : List ℕ) : Type 0 where
-  pub lent_grid_lem : LentGrid rows cols codes
+  pub grid_lent : LentGrid rows cols codes
   pub accumulation : List ℕ
   pub agreed : agrees (grid_of rows cols codes) accumulation ≡ true
   pub row_in : row < rows
   pub col_in : col < cols
   pub solid : ground (grid_of rows cols codes) (row * cols + col) ≡ true
-  pub is_outlet_lem : member (row * cols + col) outlets ≡ true
+  pub outlet_is : member (row * cols + col) outlets ≡ true
   pub noted : Noted (grid_of rows cols codes) outlets grid
   pub room : subaccumulation (grid_of rows cols codes) outlets (row * cols + col) ≤ length list
 

@@ -56,10 +56,10 @@ one_hit x (o ∷ os) h = go (eqb x o) refl (one_hit x os h.1)
     go true e ih = rw (e, eqb-true x o e) (omega (arith, none_hit o os h.0))
     go false e ih = rw e (omega (arith, ih))
 
-no_outlet_lem : (os : List ℕ) → sum_over (λ o. 0) os ≡ 0
+not_outlet : (os : List ℕ) → sum_over (λ o. 0) os ≡ 0
 unfolding sum_of
-no_outlet_lem [] = refl
-no_outlet_lem (o ∷ os) = omega (arith, no_outlet_lem os)
+not_outlet [] = refl
+not_outlet (o ∷ os) = omega (arith, not_outlet os)
 
 module _ (g : Grid) (outlets : List ℕ) where
   belongs_once : (os : List ℕ) → Sorted (λ o p. o ≡ p → ⊥) os → (c : ℕ)
@@ -69,7 +69,7 @@ module _ (g : Grid) (outlets : List ℕ) where
     where
       go : (a : Option (At Length))
           → sum_over (λ o. cond (elim a [ none ↦ false | some b ↦ eqb b.cell o ]) 1 0) os ≤ 1
-      go none = rw (no_outlet_lem os) (omega arith)
+      go none = rw (not_outlet os) (omega arith)
       go (some b) = one_hit b.cell os h
 
   module _ (v : Every (λ o. ground g o ≡ true) outlets) where
@@ -94,7 +94,7 @@ module _ (g : Grid) (outlets : List ℕ) where
         go true e h = h
         go false e h = subst
             (λ (a : Option (At Length)). sum_over (λ o. cond (elim a [ none ↦ false | some b ↦ eqb b.cell o ]) 1 0) os ≤ 0)
-            (sym (none_first c (cell_count g) e)) (omega (arith, no_outlet_lem os))
+            (sym (none_first c (cell_count g) e)) (omega (arith, not_outlet os))
 
   module _ (a : List ℕ) (h : agrees g a ≡ true) (d : Sorted (λ o p. o ≡ p → ⊥) outlets)
       (v : Every (λ o. ground g o ≡ true) outlets) where

@@ -84,7 +84,7 @@ module _ {S : Type 0} (𝓛 : Lengths S) where
     record Reaching (ks : List (Link S)) : Type 0 where
       link : Link S
       listed : In link ks
-      no_outlet_lem : outlet link.cell ≡ false
+      not_outlet : outlet link.cell ≡ false
       is_reach : reach 𝓛 (grow ups outlet f ks) ≡ reach 𝓛 (f link.cell) ▹ link.step
 
     reach_attained : (ks : List (Link S)) → (reach 𝓛 (grow ups outlet f ks) ≡ start) ⊎ Reaching ks
@@ -98,7 +98,7 @@ module _ {S : Type 0} (𝓛 : Lengths S) where
         later e (inr r) = inr (record {
           link = r.link;
           listed = inr r.listed;
-          no_outlet_lem = r.no_outlet_lem;
+          not_outlet = r.not_outlet;
           is_reach = e ∙ r.is_reach;
         })
 
@@ -116,7 +116,7 @@ module _ {S : Type 0} (𝓛 : Lengths S) where
                 ⊎ (longer_of 𝓛 (reach 𝓛 (f k.cell) ▹ k.step) (reach 𝓛 (grow ups outlet f ks))
                 ≡ reach 𝓛 (grow ups outlet f ks))
                 → (reach 𝓛 (grow ups outlet f (k ∷ ks)) ≡ start) ⊎ Reaching (k ∷ ks)
-            step (inl p) = inr (record { link = k; listed = inl refl; no_outlet_lem = e; is_reach = grown ∙ p })
+            step (inl p) = inr (record { link = k; listed = inl refl; not_outlet = e; is_reach = grown ∙ p })
             step (inr p) = later (grown ∙ p) ih
 
     -- and it is not shorter than any inflow's
@@ -246,7 +246,7 @@ pub record LongestInflow (g : Grid) (outlets : List ℕ) (x : ℕ) : Type 0 wher
   pub cell : ℕ
   pub step : Dir
   pub flows : next g cell ≡ some (record { cell = x; step = step })
-  pub no_outlet_lem : is_outlet g outlets cell ≡ false
+  pub not_outlet : is_outlet g outlets cell ≡ false
   pub is_length : upstream_length g outlets x ≡ plus_step (upstream_length g outlets cell) (step_of step)
 
 module _ (g : Grid) (a : List ℕ) (h : agrees g a ≡ true) (outlets : List ℕ) where
@@ -319,7 +319,7 @@ module _ (g : Grid) (a : List ℕ) (h : agrees g a ≡ true) (outlets : List ℕ
         step = r.link.step;
         flows = every_in (λ k. next g k.cell ≡ some (record { cell = x; step = k.step })) r.link (inflows g x)
             ((𝓝 g).sound x) r.listed;
-        no_outlet_lem = r.no_outlet_lem;
+        not_outlet = r.not_outlet;
         is_length = grown ∙ r.is_reach;
       })
 

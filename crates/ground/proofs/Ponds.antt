@@ -63,11 +63,11 @@ module _ (g : Grid) (p : ℕ) (is-pond : is_pond g p ≡ true) where
 
   -- so cells that drain to it by way of no outlet, the pond itself being none, are in no subwatershed
   module _ (outlets : List ℕ) (c k : ℕ) (comes : after (next g) k c ≡ some p)
-      (no_outlet_lem : (j x : ℕ) → j ≤ k → after (next g) j c ≡ some x → is_outlet g outlets x ≡ false) where
+      (not_outlet : (j x : ℕ) → j ≤ k → after (next g) j c ≡ some x → is_outlet g outlets x ≡ false) where
     pub in_no_subwatershed : (o : ℕ) → is_outlet g outlets o ≡ true → InSubwatershed g outlets o c → ⊥
-    in_no_subwatershed o is_outlet_lem m = elim (dec_lt k m.steps) [
+    in_no_subwatershed o outlet_is m = elim (dec_lt k m.steps) [
       | yes h ↦ over (sym (ends_at_pond c k comes m.steps h) ∙ m.meets)
-      | no h ↦ true≢false (sym is_outlet_lem ∙ no_outlet_lem m.steps o (omega arith) m.meets)
+      | no h ↦ true≢false (sym outlet_is ∙ not_outlet m.steps o (omega arith) m.meets)
     ]
       where
         over : none ≡ some o → ⊥

@@ -32,7 +32,7 @@ module _ {S : Type 0} (𝓛 : Lengths S) (next : ℕ → Option (Link S)) (outle
     within : steps ≤ n
     is_out : outlet a.cell ≡ true
     meets : after next steps c ≡ some a.cell
-    no_outlet_lem : (j x : ℕ) → j < steps → after next j c ≡ some x → outlet x ≡ false
+    not_outlet : (j x : ℕ) → j < steps → after next j c ≡ some x → outlet x ≡ false
 
   -- no outlet before one step on is no outlet before
   before : (c : ℕ) (h : Link S) (m : ℕ) → outlet c ≡ false → next c ≡ some h
@@ -49,14 +49,14 @@ module _ {S : Type 0} (𝓛 : Lengths S) (next : ℕ → Option (Link S)) (outle
         within = omega arith;
         is_out = v;
         meets = after_zero next c;
-        no_outlet_lem = λ j x h. absurd (omega arith);
+        not_outlet = λ j x h. absurd (omega arith);
       })
       (λ n c h a v f e k. record {
         steps = suc k.steps;
         within = omega (arith, k.within);
         is_out = k.is_out;
         meets = after_next next k.steps c h f ∙ k.meets;
-        no_outlet_lem = before c h k.steps v f k.no_outlet_lem;
+        not_outlet = before c h k.steps v f k.not_outlet;
       })
 
   -- THE SUBWATERSHED: what `first_outlet` finds, the walk meets before any other outlet
@@ -66,7 +66,7 @@ module _ {S : Type 0} (𝓛 : Lengths S) (next : ℕ → Option (Link S)) (outle
         steps = f.steps;
         meets = f.meets;
         no_other = λ j x h t v. absurd
-            (true≢false (sym v ∙ f.no_outlet_lem j x h t));
+            (true≢false (sym v ∙ f.not_outlet j x h t));
       }
 
   -- and the other way, if so many steps are allowed
@@ -154,13 +154,13 @@ module _ {S : Type 0} (𝓛 : Lengths S) (next : ℕ → Option (Link S)) (outle
     unfolding strides
     first_arrives = first_induct 𝓛 next outlet
         (λ n c a. Arrives 𝓛 next outlet a.cell (record { cell = c; len = a.len }))
-        (λ n c v. record { steps = 0; holds = refl; no_outlet_lem = λ j x h. absurd (omega arith) })
+        (λ n c v. record { steps = 0; holds = refl; not_outlet = λ j x h. absurd (omega arith) })
         (λ n c h a v f e k. record {
           steps = suc k.steps;
           holds = strides_next 𝓛 next k.steps (record { cell = c; len = start }) h f
               ∙ strides_more k.steps (record { cell = h.cell; len = start })
               (record { cell = a.cell; len = a.len }) h.step k.holds;
-          no_outlet_lem = before c h k.steps v f k.no_outlet_lem;
+          not_outlet = before c h k.steps v f k.not_outlet;
         })
 
     -- and it is the only length with which the walk arrives
@@ -169,7 +169,7 @@ module _ {S : Type 0} (𝓛 : Lengths S) (next : ℕ → Option (Link S)) (outle
     arrives_steps o b b' e v p q =
         elim (dec_lt q.steps p.steps) [
           | yes l ↦ absurd
-              (true≢false (sym v ∙ p.no_outlet_lem q.steps o l
+              (true≢false (sym v ∙ p.not_outlet q.steps o l
               (subst (λ (c : ℕ). after next q.steps c ≡ some o) (sym e)
               (strides_after q.steps (record { cell = b'.cell; len = start }) (record { cell = o; len = b'.len })
               q.holds))))
@@ -191,7 +191,7 @@ module _ {S : Type 0} (𝓛 : Lengths S) (next : ℕ → Option (Link S)) (outle
     arrives_first n o b v p i =
         let r = meets_within p.steps n o b.cell v
         (strides_after p.steps (record { cell = b.cell; len = start }) (record { cell = o; len = b.len })
-        p.holds) (λ j x h t u. absurd (true≢false (sym u ∙ p.no_outlet_lem j x h t))) i in
+        p.holds) (λ j x h t u. absurd (true≢false (sym u ∙ p.not_outlet j x h t))) i in
         r.1 ∙ ap (λ (l : Len). some (record { cell = o; len = l }))
         (arrives_len o (record { cell = b.cell; len = r.0 }) b refl v
         (first_arrives n b.cell (record { cell = o; len = r.0 }) r.1) p)

@@ -206,7 +206,7 @@ module _ (g : Grid) (a : List ℕ) (h : agrees g a ≡ true) (outlets : List ℕ
   head_on c b e r above = record {
     head = up.head;
     none_above = up.none_above;
-    on_path = path_next squares (next g) (is_outlet g outlets) r.cell k r.no_outlet_lem r.flows (cell_count g)
+    on_path = path_next squares (next g) (is_outlet g outlets) r.cell k r.not_outlet r.flows (cell_count g)
         up.head (record { cell = b.cell; len = through g outlets r.cell }) up.arrives up.on_path;
     arrives = up.arrives ∙ ap (λ (l : Length). some (record { cell = b.cell; len = l })) same;
   }
@@ -218,7 +218,7 @@ module _ (g : Grid) (a : List ℕ) (h : agrees g a ≡ true) (outlets : List ℕ
       there = record { cell = b.cell; len = plus_step b.len (step_of r.step) }
 
       came : arrival g outlets r.cell ≡ some there
-      came = arrival_up g a h outlets r.cell k b r.no_outlet_lem r.flows e
+      came = arrival_up g a h outlets r.cell k b r.not_outlet r.flows e
 
       up : HeadAbove g outlets r.cell there
       up = above there came

@@ -46,7 +46,7 @@ module _ {S : Type 0} (𝓛 : Lengths S) (step : ℕ → Option (Link S)) (outle
   pub record Arrives (o : ℕ) (b : At Len) : Type 0 where
     pub steps : ℕ
     pub holds : strides 𝓛 step steps (record { cell = b.cell; len = start }) ≡ some (record { cell = o; len = b.len })
-    pub no_outlet_lem : (j x : ℕ) → j < steps → after step j b.cell ≡ some x → outlet x ≡ false
+    pub not_outlet : (j x : ℕ) → j < steps → after step j b.cell ≡ some x → outlet x ≡ false
 
   -- the same worked out: the first outlet on the walk from c, within n steps, and the length to it
   abbrev pub first_outlet : ℕ → ℕ → Option (At Len)

@@ -31,13 +31,13 @@ pub record InNumbers (t : Traced) (number : ℕ) (results : List ℕ) : Type 0 w
 pub record RecursionInC (q : Call) (old : Lent) (number : ℕ) (results : List ℕ) (new : Lent) : Type 0 where
   pub answer : Traced
   pub traces : TracesByRecursion q old answer new
-  pub in_numbers_lem : InNumbers answer number results
+  pub numbers_in : InNumbers answer number results
 
 pub record StackInC (q : Call) (old : Lent) (work : List ℕ) (number : ℕ) (results : List ℕ) (new : Lent)
     (space : List ℕ) : Type 0 where
   pub answer : Traced
   pub traces : TracesByStack q old work answer new space
-  pub in_numbers_lem : InNumbers answer number results
+  pub numbers_in : InNumbers answer number results
 
 pub record AllInC (edition : ℕ) (c : Catchment) (old : LentAll) (number : ℕ) (sums : List ℕ) (new : LentAll) : Type 0 where
   pub answer : TracedAll

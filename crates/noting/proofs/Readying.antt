@@ -77,7 +77,7 @@ module _ {rows cols : ℕ} {codes outlets old : List ℕ} (fresh : Fresh rows co
   o j = get_or outlets j 0
 
   pub few : rows * cols ≤ 2 ^ 24
-  few = spots.size fresh.lent_grid_lem.sides
+  few = spots.size fresh.grid_lent.sides
 
   small_sub : (x : ℕ) → subaccumulation g outlets x ≤ 2 ^ 24
   small_sub x = go (ground g x) refl
@@ -98,7 +98,7 @@ module _ {rows cols : ℕ} {codes outlets old : List ℕ} (fresh : Fresh rows co
       → ((x : ℕ) → x < rows * cols → cells_held (get_or words x 0) ≡ subaccumulation g outlets x)
       → Ready rows cols codes outlets words
   made r f = record {
-    grid = fresh.lent_grid_lem;
+    grid = fresh.grid_lent;
     has_subaccumulations = r;
     lent = fresh.accumulation;
     agreed = fresh.agreed;
@@ -143,7 +143,7 @@ module _ {rows cols : ℕ} {codes outlets old : List ℕ} (fresh : Fresh rows co
       pub can_note : {list : List ℕ} → k < length outlets → cells_at_place rows cols codes outlets k ≤ length list
           → CanNote rows cols codes outlets k words list
       can_note h r = record {
-        lent_grid_lem = fresh.lent_grid_lem;
+        grid_lent = fresh.grid_lent;
         some_cols = fresh.some_cols;
         accumulation = fresh.accumulation;
         agreed = fresh.agreed;

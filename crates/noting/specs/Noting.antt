@@ -10,7 +10,7 @@ use Rattle.upstream.specs.Ready.{Ready, MetAt}
 
 -- a grid that holds the subaccumulation and no notes, under outlets on ground
 pub record Fresh (rows cols : ℕ) (codes outlets words : List ℕ) : Type 0 where
-  pub lent_grid_lem : LentGrid rows cols codes
+  pub grid_lent : LentGrid rows cols codes
   pub some_cols : 0 < cols
   pub accumulation : List ℕ
   pub agreed : agrees (grid_of rows cols codes) accumulation ≡ true

@@ -80,7 +80,7 @@ module _ (file : List ℕ) (cols row at : ℕ) where
 -- ---- a record after the rows
 
 pub ends : (file : List ℕ) (at : ℕ) → is_end (drop at file) ≡ true → length file - at ≡ 2 → Ends file at
-ends file at e l = record { is_end_lem = e; over = length-drop at file ∙ l }
+ends file at e l = record { end_is = e; over = length-drop at file ∙ l }
 
 module _ (file : List ℕ) (rows cols at : ℕ) where
   abbrev tail_refuses : ℕ → Type 0
@@ -91,9 +91,9 @@ module _ (file : List ℕ) (rows cols at : ℕ) where
   more_after_end e f n = refuses _ 8 (rw (e, length-drop at file, ne_eqb (length file - at) 2 f))
 
   module _ (e : is_end (drop at file) ≡ false) where
-    pub no_outlet_lem : is_outlet (drop at file) ≡ false → tail_refuses 6
+    pub not_outlet : is_outlet (drop at file) ≡ false → tail_refuses 6
     unfolding first_failed tail_checks
-    no_outlet_lem f n = refuses _ 5 (rw (e, f))
+    not_outlet f n = refuses _ 5 (rw (e, f))
 
     module _ (o : is_outlet (drop at file) ≡ true) where
       pub beyond_rows : rows ≤ number_at 2 (drop at file) → tail_refuses 7

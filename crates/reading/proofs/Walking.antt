@@ -65,7 +65,7 @@ module _ (file : List ℕ) (rows cols at : ℕ) where
   unfolding tail_checks outlet_count first_failed
   tail_ends zero h t = absurd (omega arith)
   tail_ends (suc n) h t =
-      record { number = rw (t.is_end_lem, eq-eqb (length (drop at file)) 2 t.over); counted = rw t.is_end_lem }
+      record { number = rw (t.end_is, eq-eqb (length (drop at file)) 2 t.over); counted = rw t.end_is }
 
   pub tail_stop : (n k : ℕ) → 0 < n → ((m : ℕ) → Refuses (first_failed (tail_checks rows cols (suc m) (drop at file))) k)
       → Refuses (first_failed (tail_checks rows cols n (drop at file))) k

@@ -38,7 +38,7 @@ module _ (file : List ℕ) where
 
   -- the end record, and nothing after it
   pub record Ends (at : ℕ) : Type 0 where
-    pub is_end_lem : is_end (drop at file) ≡ true
+    pub end_is : is_end (drop at file) ≡ true
     pub over : length (drop at file) ≡ 2
 
   module _ (rows cols : ℕ) where

@@ -95,7 +95,7 @@ module _ (𝓛 : Lengths Dir) (rule : Rule 𝓛) (g : Grid) (outlets : List ℕ)
 pub record Found (g : Grid) (outlets : List ℕ) (x : ℕ) (d : Dir) (y : ℕ) : Type 0 where
   pub there : neighbour g x d ≡ some y
   pub flows : flows_in g d (some y) ≡ true
-  pub no_outlet_lem : member y outlets ≡ false
+  pub not_outlet : member y outlets ≡ false
 
 pub found_in : (g : Grid) (outlets : List ℕ) (x : ℕ) (d : Dir) (y : ℕ) → inflow_in g outlets x d ≡ some y
     → Found g outlets x d y
@@ -107,7 +107,7 @@ found_in g outlets x d y e = by_place (neighbour g x d) refl
     by_test z n true f false o k =
         let p : some z ≡ some y = sym (rw (f, o)) ∙ k in
         let q : z ≡ y = cc in
-        subst (Found g outlets x d) q (record { there = n; flows = f; no_outlet_lem = o })
+        subst (Found g outlets x d) q (record { there = n; flows = f; not_outlet = o })
     by_test z n true f true o k = let p : none ≡ some y = sym (rw (f, o)) ∙ k in let w : ◌≡◌ {A = ℕ} 0 1 = cc in
         absurd (omega arith)
     by_test z n false f c o k = let p : none ≡ some y = sym (rw f) ∙ k in let w : ◌≡◌ {A = ℕ} 0 1 = cc in
@@ -147,13 +147,13 @@ module _ (𝓛 : Lengths Dir) (rule : Rule 𝓛) (g : Grid) (outlets : List ℕ)
     pub turn_drops : drops 𝓛 rule st.starts d (opposite e) (subaccumulation g outlets y) ≡ true
         → turn_to 𝓛 rule g outlets (e ∷ ds) x d st ≡ turn_to 𝓛 rule g outlets ds x d
         (drop_cells 𝓛 st (subaccumulation g outlets y))
-    turn_drops k = turn_dropped 𝓛 rule g outlets e ds x d st y f.there f.flows f.no_outlet_lem a h
+    turn_drops k = turn_dropped 𝓛 rule g outlets e ds x d st y f.there f.flows f.not_outlet a h
         (found_ground g outlets x e y f) k
 
     pub turn_enters : drops 𝓛 rule st.starts d (opposite e) (subaccumulation g outlets y) ≡ false
         → turn_to 𝓛 rule g outlets (e ∷ ds) x d st ≡ turn_to 𝓛 rule g outlets ds x d
         (enter 𝓛 rule g outlets y (𝓛.◌▹◌ d (opposite e)) st)
-    turn_enters k = turn_entered 𝓛 rule g outlets e ds x d st y f.there f.flows f.no_outlet_lem a h
+    turn_enters k = turn_entered 𝓛 rule g outlets e ds x d st y f.there f.flows f.not_outlet a h
         (found_ground g outlets x e y f) k
 
 -- a cell's subaccumulation counts itself and what the search turns to from it

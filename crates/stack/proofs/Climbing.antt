@@ -163,10 +163,10 @@ module _ {rows cols : ℕ} {codes outlets subaccumulations : List ℕ}
           same = λ h. absurd (omega (arith, s.0, s.1, ih.no_fewer));
         }
 
-    pub no_outlet_lem : {values : List ℕ} → values ≡ inflow_record g subaccumulations x → {n : ℕ} → n ≡ sub x
+    pub not_outlet : {values : List ℕ} → values ≡ inflow_record g subaccumulations x → {n : ℕ} → n ≡ sub x
         → sum_of (map cells_held values) ≡ n - 1 → inflows_above g [] x len dirs ≡ inflows_above g outlets x len dirs
     unfolding inflow_record
-    no_outlet_lem v {n} is-n e = (alike dirs).same
+    not_outlet v {n} is-n e = (alike dirs).same
         (omega (
           arith,
           ap (λ (ws : List ℕ). sum_of (map cells_held ws)) v,

@@ -174,7 +174,7 @@ module _ {rows cols : ℕ} {codes outlets subaccumulations : List ℕ}
 
     pub outlet_fits : {end : ℕ} → end ≡ 3 * sub o → {p : Progress} → p ≡ begun → {len : Length} → len ≡ counts 0 0
         → {old : List ℕ} → end ≤ length old → Fits (sub o) len end p 0 old
-    outlet_fits is_end_lem is-p is-len h = rw (is-p, is-len) (record {
+    outlet_fits end_is is-p is-len h = rw (is-p, is-len) (record {
       room = omega arith;
       within = h;
       short = omega arith;
@@ -182,7 +182,7 @@ module _ {rows cols : ℕ} {codes outlets subaccumulations : List ℕ}
       few_paths = omega arith;
     })
 
-    module _ {met : Which Dir} {end : ℕ} (is_end_lem : end ≡ 3 * sub o) {p : Progress} (is-p : p ≡ begun)
+    module _ {met : Which Dir} {end : ℕ} (end_is : end ≡ 3 * sub o) {p : Progress} (is-p : p ≡ begun)
         {len : Length} (is-len : len ≡ counts 0 0) {old : List ℕ} {r : Stack} {new : List ℕ}
         (enters : Entered g outlets met o len end p 0 old r new) where
       into : Entered g outlets met o (counts 0 0) end begun 0 old r new
@@ -210,9 +210,9 @@ module _ {rows cols : ℕ} {codes outlets subaccumulations : List ℕ}
         → ((i : ℕ) → end ≤ i → get_or work i 0 ≡ get_or old i 0)
         → Traced g outlets met dropping o old s.progress work
     unfolding pending drain cells_pending
-    traced {end} is_end_lem met dropping {s} old {work} standing none d beyond = record {
+    traced {end} end_is met dropping {s} old {work} standing none d beyond = record {
       searched = record {
-        state = ap (state_of s.progress work) (sym is_end_lem)
+        state = ap (state_of s.progress work) (sym end_is)
             ∙ ap (λ (k : ℕ). drain g outlets met dropping (pending work k) (state_of s.progress work end)) (sym none) ∙ d;
         all_cells = omega (
           arith,

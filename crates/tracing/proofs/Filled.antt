@@ -57,7 +57,7 @@ module _ (c : Catchment) (old : List ℕ) (ours : c.grid.table ≡ table1) (rest
 
     pub fresh : Fresh land.rows land.cols land.codes c.outlets new
     fresh = record {
-      lent_grid_lem = sizes.grid;
+      grid_lent = sizes.grid;
       some_cols = sizes.some_cols;
       has_room = omega (arith, long, sizes.reach (length old) (inr (inl refl)));
       accumulation = c.accumulation;

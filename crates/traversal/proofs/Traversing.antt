@@ -56,21 +56,21 @@ module _ (next : ℕ → Option (Link Dir)) (outlet : ℕ → Bool) where
   }
 
   -- AN OUTLET is entered that was not
-  module _ (t : Traversal next outlet) (o : ℕ) (is_outlet_lem : outlet o ≡ true) (fresh : t.entered o ≡ false) where
+  module _ (t : Traversal next outlet) (o : ℕ) (outlet_is : outlet o ≡ true) (fresh : t.entered o ≡ false) where
     abbrev pub begun : Traversal next outlet
     begun = record {
       entered = also t.entered o;
       left = t.left;
       left_entered = λ c h. also_in t.entered o c (t.left_entered c h);
       above_left = t.above_left;
-      from_below = λ c d y u h. also_in t.entered o c (t.from_below c d y u (was y u.no_outlet_lem h));
+      from_below = λ c d y u h. also_in t.entered o c (t.from_below c d y u (was y u.not_outlet h));
       has_below = λ c h v. t.has_below c (was c v h) v;
-      in_order = λ c d e y z u v i h. t.in_order c d e y z u v i (was z v.no_outlet_lem h);
+      in_order = λ c d e y z u v i h. t.in_order c d e y z u v i (was z v.not_outlet h);
     }
       where
         was : (c : ℕ) → outlet c ≡ false → also t.entered o c ≡ true → t.entered c ≡ true
         was c v h = also_or (t.entered c ≡ true) t.entered o c h
-            (λ q. absurd (true≢false (sym is_outlet_lem ∙ ap outlet (sym q) ∙ v))) (λ w. w)
+            (λ q. absurd (true≢false (sym outlet_is ∙ ap outlet (sym q) ∙ v))) (λ w. w)
 
     pub begun_here : Here next outlet begun o 0
     begun_here = record {
@@ -78,7 +78,7 @@ module _ (next : ℕ → Option (Link Dir)) (outlet : ℕ → Bool) where
       not_left = go (t.left o) refl;
       before = λ d y u i. absurd (omega arith);
       ahead = λ d y u i. also_not t.entered o y
-          (λ q. true≢false (sym is_outlet_lem ∙ ap outlet (sym q) ∙ u.no_outlet_lem)) (above d y u (t.entered y) refl);
+          (λ q. true≢false (sym outlet_is ∙ ap outlet (sym q) ∙ u.not_outlet)) (above d y u (t.entered y) refl);
     }
       where
         go : (b : Bool) → t.left o ≡ b → t.left o ≡ false
@@ -172,7 +172,7 @@ module _ (next : ℕ → Option (Link Dir)) (outlet : ℕ → Bool) where
         own : Tributary next outlet p (opposite s) x
         own = record {
           flows = is_next ∙ ap (λ (d : Dir). some (record { cell = p; step = d })) (sym (opposite_twice s));
-          no_outlet_lem = inner;
+          not_outlet = inner;
         }
 
         pub leaving_here : Here next outlet leaving p (place_of (opposite s) + 1)
@@ -212,5 +212,5 @@ module _ (next : ℕ → Option (Link Dir)) (outlet : ℕ → Bool) where
   left_all 𝓛 t all = first_induct 𝓛 next outlet (λ n c b. t.left c ≡ true) (λ n c v. all c v)
       (λ n c k b v f e ih. t.above_left k.cell (opposite k.step) c (record {
         flows = f ∙ ap (λ (d : Dir). some (record { cell = k.cell; step = d })) (sym (opposite_twice k.step));
-        no_outlet_lem = v;
+        not_outlet = v;
       }) ih)

@@ -86,7 +86,7 @@ module _ (g : Grid) (outlets marks : List ℕ)
       let e : inflow_from g x d ≡ some y = ap (if_flows_in g d) b ∙ ap (λ (t : Bool). cond t (some y) none) f in
       is_unmarked g marks x (place_of d)
       (ap (inflow_from g x) (at_place d) ∙ e)
-      (unmarked y (ground_within g y ((network g).solid y h u.flows)) u.no_outlet_lem)
+      (unmarked y (ground_within g y ((network g).solid y h u.flows)) u.not_outlet)
 
   passed_over : (d : Dir) (y : ℕ) → Trib d y → k ≤ place_of d → place_of d < r → ⊥
   passed_over d y u i j = never (sym (n.passed.none_there (place_of d) i j) ∙ seen d y u)
@@ -111,7 +111,7 @@ module _ (g : Grid) (outlets marks : List ℕ)
         let q : (n.found l).0 ≡ y = cc in
         subst (Trib (dir_at r)) q (record {
           flows = inflow_next g x (dir_at r) (n.found l).0 is_ground a.there a.flows;
-          no_outlet_lem = go (is_outlet g outlets (n.found l).0) refl;
+          not_outlet = go (is_outlet g outlets (n.found l).0) refl;
         })
       where
         go : (b : Bool) → is_outlet g outlets (n.found l).0 ≡ b → is_outlet g outlets (n.found l).0 ≡ false

@@ -10,7 +10,7 @@ module _ (next : ℕ → Option (Link Dir)) (outlet : ℕ → Bool) where
   -- a cell flows in from the neighbour in a direction, and is no outlet
   pub record Tributary (x : ℕ) (d : Dir) (y : ℕ) : Type 0 where
     pub flows : next y ≡ some (record { cell = x; step = opposite d })
-    pub no_outlet_lem : outlet y ≡ false
+    pub not_outlet : outlet y ≡ false
 
   -- the cells that are entered, and of these the cells that are left
   pub record Traversal : Type 0 where

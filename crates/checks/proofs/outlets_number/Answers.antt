@@ -7,7 +7,7 @@ use Rattle.ground.specs.Grid.{grid_of}
 use Rattle.answers.specs.Entries.{catchment, agreed_checks}
 use Rattle.answers.proofs.FirstFailed.{handed_on}
 use Rattle.checks.proofs.Passed.{sized}
-use Rattle.checks.proofs.Numbers.{no_outlet_lem, too_many, not_all_placed, listed_twice, outlets_pass}
+use Rattle.checks.proofs.Numbers.{not_outlet, too_many, not_all_placed, listed_twice, outlets_pass}
 use Rattle.checks.proofs.outlets_number.Goals as goal
 
 pub returns-then-number-ne0 : goal.returns-then-number-ne0
@@ -20,7 +20,7 @@ pub returns-then-outlets-lt1 : goal.returns-then-outlets-lt1
 returns-then-outlets-lt1 c =
     let a = c.args in
     let judged = catchment a.rows a.cols a.codes.now a.accumulation.now a.outlets.now in
-    no_outlet_lem judged a.lent.now (sym c.agreed_number-number.ensures ∙ c.if-number-ne0.false)
+    not_outlet judged a.lent.now (sym c.agreed_number-number.ensures ∙ c.if-number-ne0.false)
     c.if-outlets-lt1.true
 
 pub returns-then-outlets-gt256 : goal.returns-then-outlets-gt256

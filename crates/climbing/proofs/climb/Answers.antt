@@ -51,13 +51,20 @@ pub returns-then-dd-x-ge-MARK : goal.returns-then-dd-x-ge-MARK
 returns-then-dd-x-ge-MARK c =
     let s = c.requires in
     let l = c.loop-p.invariant in
-    record { rests = resting_on s.climbable l c.next_turn-k.ensures c.if-k-ge8.true s.place_in_bounds.0 c.if-dd-x-ge-MARK.true; keeps = l.kept }
+    record {
+      rests = resting_on s.climbable l c.next_turn-k.ensures c.if-k-ge8.true s.place_in_bounds.0
+          c.if-dd-x-ge-MARK.true;
+      keeps = l.kept;
+    }
 
 pub below-p-requires : goal.below-p-requires
 below-p-requires c =
     let s = c.requires in
     let l = c.loop-p.invariant in
-    record { on_position = l.on; has_next = has_next s.climbable l c.next_turn-k.ensures c.if-k-ge8.true c.if-dd-x-ge-MARK.false }
+    record {
+      on_position = l.on;
+      has_next = has_next s.climbable l c.next_turn-k.ensures c.if-k-ge8.true c.if-dd-x-ge-MARK.false;
+    }
 
 pub bounds-codes-x : goal.bounds-codes-x
 bounds-codes-x c =
@@ -96,7 +103,10 @@ pub moved-p-requires : goal.moved-p-requires
 moved-p-requires c =
     let s = c.requires in
     let l = c.loop-p.invariant in
-    record { on_position = l.on; k_bound = (c.if-k-ge8.false, has_neighbour s.climbable l c.next_turn-k.ensures c.if-k-ge8.false) }
+    record {
+      on_position = l.on;
+      k_bound = (c.if-k-ge8.false, has_neighbour s.climbable l c.next_turn-k.ensures c.if-k-ge8.false);
+    }
 
 pub bounds-codes-y : goal.bounds-codes-y
 bounds-codes-y c =

@@ -9,7 +9,8 @@ use Rattle.climbing.proofs.climb.Given as goal
 
 abbrev pub invariant-loop-p : goal.invariant-loop-p
 invariant-loop-p l =
-    Standing l.rows l.cols l.codes l.outlets l.steps l.place l.p.row l.p.col l.p.at l.p.turn (length_grids l.initial.ds l.initial.dd l.initial.us l.initial.ud)
+    Standing l.rows l.cols l.codes l.outlets l.steps l.place l.p.row l.p.col l.p.at l.p.turn
+    (length_grids l.initial.ds l.initial.dd l.initial.us l.initial.ud)
     (length_grids l.ds l.dd l.us l.ud)
 
 abbrev pub decreases-loop-p : goal.decreases-loop-p

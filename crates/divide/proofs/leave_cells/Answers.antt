@@ -14,7 +14,7 @@ inside : (c : goal.After-index_of-cell) → (c.index_of-cell.result / 4096 * c.a
 inside c = cell_inside c.requires.on_list c.loop-k-test.true c.index_of-cell.ensures.0
 
 small : (c : goal.After-index_of-cell) → c.args.rows * c.args.cols ≤ 4096 * 4096
-small c = size c.requires.lent_grid_lem.sides
+small c = size c.requires.grid_lent.sides
 
 pub loop-k-init : goal.loop-k-init
 loop-k-init c = (search rules, changes_none (λ x. refl))
@@ -32,7 +32,7 @@ pub bounds-grid-at : goal.bounds-grid-at
 bounds-grid-at c = (let held : (c.index_of-cell.result / 4096 * c.args.cols + c.index_of-cell.result % 4096) < length c.loop-k.grid = omega (arith, (cell_inside c.requires.on_list c.loop-k-test.true c.index_of-cell.ensures.0), c.requires.has_room, c.loop-k.invariant.1.kept.same_length) in held)
 
 pub offset_bounds-grid-at-in-loop-k : goal.offset_bounds-grid-at-in-loop-k
-offset_bounds-grid-at-in-loop-k c = omega (arith, (cell_inside c.requires.on_list c.loop-k-test.true c.index_of-cell.ensures.0), (size c.requires.lent_grid_lem.sides))
+offset_bounds-grid-at-in-loop-k c = omega (arith, (cell_inside c.requires.on_list c.loop-k-test.true c.index_of-cell.ensures.0), (size c.requires.grid_lent.sides))
 
 pub bounds-grid-at-in-loop-k : goal.bounds-grid-at-in-loop-k
 bounds-grid-at-in-loop-k c = (let held : (c.index_of-cell.result / 4096 * c.args.cols + c.index_of-cell.result % 4096) < length c.loop-k.grid = omega (arith, (cell_inside c.requires.on_list c.loop-k-test.true c.index_of-cell.ensures.0), c.requires.has_room, c.loop-k.invariant.1.kept.same_length) in held)

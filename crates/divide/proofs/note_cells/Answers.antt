@@ -22,7 +22,7 @@ is_beside-requires c =
     let h = c.loop-k-test.true in
     record {
       on = record {
-        grid = s.lent_grid_lem;
+        grid = s.grid_lent;
         row_in = cell_row s.on_list h c.index_of-cell.ensures.0;
         col_in = cell_col s.on_list h c.index_of-cell.ensures.0;
       };
@@ -30,13 +30,13 @@ is_beside-requires c =
     }
 
 pub overflow_mul-at : goal.overflow_mul-at
-overflow_mul-at c = omega (arith, (cell_inside c.requires.on_list c.loop-k-test.true c.index_of-cell.ensures.0), (size c.requires.lent_grid_lem.sides))
+overflow_mul-at c = omega (arith, (cell_inside c.requires.on_list c.loop-k-test.true c.index_of-cell.ensures.0), (size c.requires.grid_lent.sides))
 
 pub overflow_add-at : goal.overflow_add-at
-overflow_add-at c = omega (arith, (cell_inside c.requires.on_list c.loop-k-test.true c.index_of-cell.ensures.0), (size c.requires.lent_grid_lem.sides))
+overflow_add-at c = omega (arith, (cell_inside c.requires.on_list c.loop-k-test.true c.index_of-cell.ensures.0), (size c.requires.grid_lent.sides))
 
 pub offset_bounds-grid-at : goal.offset_bounds-grid-at
-offset_bounds-grid-at c = omega (arith, (cell_inside c.requires.on_list c.loop-k-test.true c.index_of-cell.ensures.0), (size c.requires.lent_grid_lem.sides))
+offset_bounds-grid-at c = omega (arith, (cell_inside c.requires.on_list c.loop-k-test.true c.index_of-cell.ensures.0), (size c.requires.grid_lent.sides))
 
 pub bounds-grid-at : goal.bounds-grid-at
 bounds-grid-at c = (let held : (c.index_of-cell.result / 4096 * c.args.cols + c.index_of-cell.result % 4096) < length c.loop-k.grid = omega (arith, (cell_inside c.requires.on_list c.loop-k-test.true c.index_of-cell.ensures.0), c.requires.has_room, c.loop-k.invariant.1.kept.same_length) in held)
@@ -48,7 +48,7 @@ pub overflow_add-grid-then-not-is_beside : goal.overflow_add-grid-then-not-is_be
 overflow_add-grid-then-not-is_beside c = omega (arith, c.slice_known-then-not-is_beside-1.given ((c.index_of-cell.result / 4096 * c.args.cols + c.index_of-cell.result % 4096)))
 
 pub offset_bounds-grid-at-then-not-is_beside : goal.offset_bounds-grid-at-then-not-is_beside
-offset_bounds-grid-at-then-not-is_beside c = omega (arith, (cell_inside c.requires.on_list c.loop-k-test.true c.index_of-cell.ensures.0), (size c.requires.lent_grid_lem.sides))
+offset_bounds-grid-at-then-not-is_beside c = omega (arith, (cell_inside c.requires.on_list c.loop-k-test.true c.index_of-cell.ensures.0), (size c.requires.grid_lent.sides))
 
 pub bounds-grid-at-then-not-is_beside : goal.bounds-grid-at-then-not-is_beside
 bounds-grid-at-then-not-is_beside c = (let held : (c.index_of-cell.result / 4096 * c.args.cols + c.index_of-cell.result % 4096) < length c.loop-k.grid = omega (arith, (cell_inside c.requires.on_list c.loop-k-test.true c.index_of-cell.ensures.0), c.requires.has_room, c.loop-k.invariant.1.kept.same_length) in held)

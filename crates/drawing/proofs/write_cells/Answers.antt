@@ -20,7 +20,13 @@ cell_number-requires c = inside c.requires c.loop-left.invariant
 
 pub bounds-path-at : goal.bounds-path-at
 bounds-path-at c =
-    omega (arith, c.loop-left-test.true, c.loop-left.invariant.at_most, c.requires.has_room, long c.requires c.loop-left.invariant)
+    omega (
+      arith,
+      c.loop-left-test.true,
+      c.loop-left.invariant.at_most,
+      c.requires.has_room,
+      long c.requires c.loop-left.invariant,
+    )
 
 pub step-walk-requires : goal.step-walk-requires
 step-walk-requires c =

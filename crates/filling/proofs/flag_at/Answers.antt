@@ -22,7 +22,7 @@ bounds-words-at-2 c = o_room (the_next c.requires.fillable c.requires.flagged c.
 pub downstream_of-requires : goal.downstream_of-requires
 downstream_of-requires c =
     let o = the_next c.requires.fillable c.requires.flagged c.index_of-at.ensures.0 in
-    numbered o.fillable.grid (rw o.is_outlet_lem c.split_number-cell.ensures) (o_inside o) c.offsets-steps.ensures
+    numbered o.fillable.grid (rw o.outlet_is c.split_number-cell.ensures) (o_inside o) c.offsets-steps.ensures
 
 pub returns-in-End : goal.returns-in-End
 returns-in-End c =

@@ -17,7 +17,7 @@ pub shape_of-words-in-End : goal.shape_of-words-in-End
 shape_of-words-in-End c = c.loop-s.invariant.kept.same_length
 
 pub returns-in-End : goal.returns-in-End
-returns-in-End c = let g = c.loop-s.invariant in record { looks = g.is_done_lem c.in-End.is; keeps = g.kept }
+returns-in-End c = let g = c.loop-s.invariant in record { looks = g.done_is c.in-End.is; keeps = g.kept }
 
 pub overflow_add-n : goal.overflow_add-n
 overflow_add-n c =

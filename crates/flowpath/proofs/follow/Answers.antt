@@ -62,7 +62,8 @@ overflow_add-to c =
 
 pub returns-then-to-cell : goal.returns-then-to-cell
 returns-then-to-cell c =
-    lost c.loop-walk.invariant c.step-walk.ensures (sym c.meets_outlet.ensures ∙ c.if-meets_outlet.false) c.if-to-cell.true
+    lost c.loop-walk.invariant c.step-walk.ensures (sym c.meets_outlet.ensures ∙ c.if-meets_outlet.false)
+    c.if-to-cell.true
 
 pub loop-walk-smaller : goal.loop-walk-smaller
 loop-walk-smaller c =

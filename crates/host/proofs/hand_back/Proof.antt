@@ -12,7 +12,7 @@ in_numbers_requires c κs = search rules
 
 returns : tie.Need-returns
 returns c =
-    let e = c.before.in_numbers_lem.ensures in
+    let e = c.before.numbers_in.ensures in
     let t = c.before.before.args.t in
     record {
       is_number = ap (λ (n : Numbers). n.number) e;

@@ -7,7 +7,7 @@ use Prim.Native.Nat.{ℕ, ◌+◌, ◌≤◌}
 use native.Mathlib.Omega.{arith}
 use lib.ListN.{length, drop}
 use Rattle.spelling.specs.Reading.{is_outlet}
-use Rattle.reading.proofs.Steps.{record_fits, ends, more_after_end, no_outlet_lem, beyond_rows, beyond_cols}
+use Rattle.reading.proofs.Steps.{record_fits, ends, more_after_end, not_outlet, beyond_rows, beyond_cols}
 use Rattle.reading.proofs.Steps.{outlet_passes}
 use Rattle.reading.proofs.record_at.Goals as goal
 
@@ -28,7 +28,7 @@ returns-then-is_record c =
 pub returns-then-not-is_record : goal.returns-then-not-is_record
 returns-then-not-is_record c =
     let a = c.args in
-    no_outlet_lem a.file.now a.rows a.cols a.here.at (sym c.is_record.ensures ∙ c.if-is_record.false)
+    not_outlet a.file.now a.rows a.cols a.here.at (sym c.is_record.ensures ∙ c.if-is_record.false)
     (sym c.is_record-2.ensures ∙ c.if-not-is_record.true)
 
 pub number-requires : goal.number-requires

@@ -4,7 +4,7 @@ use mathlib.Core.Path.{sym, ◌∙◌}
 use native.Mathlib.Omega.{arith}
 use borrow.Author.Tests.{eqb-true, not-true}
 use Rattle.stack.proofs.Near.{none_near}
-use Rattle.stack.proofs.Climbing.{one_cell, no_outlet_lem}
+use Rattle.stack.proofs.Climbing.{one_cell, not_outlet}
 use Rattle.stack.proofs.none_flows_in.Goals as goal
 
 pub returns-then-outlets-lt16 : goal.returns-then-outlets-lt16
@@ -21,5 +21,5 @@ returns c =
     let p = c.requires in
     let sum = c.cells_above in
     λ e len.
-    no_outlet_lem p.ready p.on_ground len c.inflows_of-inflows.ensures p.n_value
+    not_outlet p.ready p.on_ground len c.inflows_of-inflows.ensures p.n_value
     (omega (arith, sum.ensures, eqb-true sum.result c.wide.result e, c.wide.ensures.0))

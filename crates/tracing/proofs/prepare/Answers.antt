@@ -46,3 +46,39 @@ pub bounds-outlets-place : goal.bounds-outlets-place
 bounds-outlets-place c = (let held : c.args.place < length c.args.outlets.now = in_list ((let a = c.args in
                 catchment a.rows a.cols a.codes.now a.accumulation.now a.outlets.now)) (lengths ((let a = c.args in
                 catchment a.rows a.cols a.codes.now a.accumulation.now a.outlets.now)) c.args.subaccumulation.now) c.args.place ((sym c.place_number-first.ensures ∙ c.if-first-ne0.false)) in held)
+
+pub bounds-subaccumulation-at : goal.bounds-subaccumulation-at
+bounds-subaccumulation-at c =
+    omega (
+      arith,
+      c.index_of-at.ensures.0,
+      in_grid ((let a = c.args in
+          catchment a.rows a.cols a.codes.now a.accumulation.now a.outlets.now)) c.args.subaccumulation.now refl ((check18 ((let a = c.args in
+                catchment a.rows a.cols a.codes.now a.accumulation.now a.outlets.now)).outlets c.args.place ∷ [])) ((sym c.place_number-first.ensures ∙ c.if-first-ne0.false)) ((let held : c.fill.new.subaccumulation ≡ overlaid (subaccumulations ((let a = c.args in catchment a.rows a.cols a.codes.now a.accumulation.now a.outlets.now)).grid ((let a = c.args in catchment a.rows a.cols a.codes.now a.accumulation.now a.outlets.now)).outlets) c.args.subaccumulation.now = filled_sub ((let a = c.args in
+                catchment a.rows a.cols a.codes.now a.accumulation.now a.outlets.now)) c.args.subaccumulation.now ((check18 ((let a = c.args in
+                      catchment a.rows a.cols a.codes.now a.accumulation.now a.outlets.now)).outlets c.args.place ∷ []))
+          ((sym c.place_number-first.ensures ∙ c.if-first-ne0.false)) c.fill.ensures in held)) c.args.place ((let held : c.args.place < length c.args.outlets.now = in_list ((let a = c.args in
+                catchment a.rows a.cols a.codes.now a.accumulation.now a.outlets.now)) (lengths ((let a = c.args in
+                catchment a.rows a.cols a.codes.now a.accumulation.now a.outlets.now)) c.args.subaccumulation.now) c.args.place ((sym c.place_number-first.ensures ∙ c.if-first-ne0.false)) in held)),
+    )
+
+pub returns : goal.returns
+returns c =
+    record {
+      is_number = sym ((sym c.place_number-first.ensures ∙ c.if-first-ne0.false));
+      refused = λ z. absurd (z refl);
+      filled = λ z. (let held : c.fill.new.subaccumulation ≡ overlaid (subaccumulations ((let a = c.args in catchment a.rows a.cols a.codes.now a.accumulation.now a.outlets.now)).grid ((let a = c.args in catchment a.rows a.cols a.codes.now a.accumulation.now a.outlets.now)).outlets) c.args.subaccumulation.now = filled_sub ((let a = c.args in
+                catchment a.rows a.cols a.codes.now a.accumulation.now a.outlets.now)) c.args.subaccumulation.now ((check18 ((let a = c.args in
+                      catchment a.rows a.cols a.codes.now a.accumulation.now a.outlets.now)).outlets c.args.place ∷ []))
+          ((sym c.place_number-first.ensures ∙ c.if-first-ne0.false)) c.fill.ensures in held);
+      counted = λ z. ap (λ (x : ℕ). get_or c.fill.new.subaccumulation x 0) c.index_of-at.ensures.0
+          ∙ cells ((let a = c.args in
+          catchment a.rows a.cols a.codes.now a.accumulation.now a.outlets.now)) c.args.subaccumulation.now refl ((check18 ((let a = c.args in
+                catchment a.rows a.cols a.codes.now a.accumulation.now a.outlets.now)).outlets c.args.place ∷ [])) ((sym c.place_number-first.ensures ∙ c.if-first-ne0.false)) ((let held : c.fill.new.subaccumulation ≡ overlaid (subaccumulations ((let a = c.args in catchment a.rows a.cols a.codes.now a.accumulation.now a.outlets.now)).grid ((let a = c.args in catchment a.rows a.cols a.codes.now a.accumulation.now a.outlets.now)).outlets) c.args.subaccumulation.now = filled_sub ((let a = c.args in
+                catchment a.rows a.cols a.codes.now a.accumulation.now a.outlets.now)) c.args.subaccumulation.now ((check18 ((let a = c.args in
+                      catchment a.rows a.cols a.codes.now a.accumulation.now a.outlets.now)).outlets c.args.place ∷ []))
+          ((sym c.place_number-first.ensures ∙ c.if-first-ne0.false)) c.fill.ensures in held)) c.args.place
+          ((let held : c.args.place < length c.args.outlets.now = in_list ((let a = c.args in
+                catchment a.rows a.cols a.codes.now a.accumulation.now a.outlets.now)) (lengths ((let a = c.args in
+                catchment a.rows a.cols a.codes.now a.accumulation.now a.outlets.now)) c.args.subaccumulation.now) c.args.place ((sym c.place_number-first.ensures ∙ c.if-first-ne0.false)) in held));
+    }

@@ -30,3 +30,19 @@ returns-then-ready-gt4096 c =
           call_of a.edition a.rows a.cols a.codes.now a.accumulation.now a.outlets.now a.place
           a.dropping)) ((lent c.args.subaccumulation.now c.args.starts.now)) ((sym c.is_edition.ensures ∙ c.if-not-is_edition.false)) c.prepare-ready.ensures c.if-number-ne0.false
     c.if-ready-gt4096.true c.refused-then-ready-gt4096.ensures
+
+pub by_recursion-requires : goal.by_recursion-requires
+by_recursion-requires c =
+    let r = c.prepare-ready.ensures in record { fresh = prepared_fresh {c = ((let a = c.args in
+          call_of a.edition a.rows a.cols a.codes.now a.accumulation.now a.outlets.now a.place
+          a.dropping)).catchment} refl r c.if-number-ne0.false; chosen = prepared_chosen {c = ((let a = c.args in
+          call_of a.edition a.rows a.cols a.codes.now a.accumulation.now a.outlets.now a.place
+          a.dropping)).catchment} refl r c.if-number-ne0.false; place_bound = omega (arith, c.if-ready-gt4096.false, r.counted c.if-number-ne0.false) }
+
+pub returns : goal.returns
+returns c =
+    rw c.by_recursion.ensures.subaccumulation_unchanged
+    (recursion_whole ((let a = c.args in
+          call_of a.edition a.rows a.cols a.codes.now a.accumulation.now a.outlets.now a.place
+          a.dropping)) ((lent c.args.subaccumulation.now c.args.starts.now)) ((sym c.is_edition.ensures ∙ c.if-not-is_edition.false)) c.prepare-ready.ensures c.if-number-ne0.false c.if-ready-gt4096.false
+    c.by_recursion.ensures.lists)

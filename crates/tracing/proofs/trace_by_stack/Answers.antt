@@ -32,3 +32,19 @@ returns-then-work-index_of c =
           call_of a.edition a.rows a.cols a.codes.now a.accumulation.now a.outlets.now a.place
           a.dropping)) ((lent c.args.subaccumulation.now c.args.starts.now)) c.args.work.now ((sym c.is_edition.ensures ∙ c.if-not-is_edition.false)) c.prepare-ready.ensures
     c.if-number-ne0.false (omega (arith, c.if-work-index_of.true, c.index_of.ensures.0)) c.refused-then-work-index_of.ensures
+
+pub by_stack-requires : goal.by_stack-requires
+by_stack-requires c =
+    let r = c.prepare-ready.ensures in record { fresh = prepared_fresh {c = ((let a = c.args in
+          call_of a.edition a.rows a.cols a.codes.now a.accumulation.now a.outlets.now a.place
+          a.dropping)).catchment} refl r c.if-number-ne0.false; chosen = prepared_chosen {c = ((let a = c.args in
+          call_of a.edition a.rows a.cols a.codes.now a.accumulation.now a.outlets.now a.place
+          a.dropping)).catchment} refl r c.if-number-ne0.false; cells_value = (r.counted c.if-number-ne0.false, omega (arith, c.if-work-index_of.false, c.index_of.ensures.0)) }
+
+pub returns : goal.returns
+returns c =
+    rw c.by_stack.ensures.subaccumulation_unchanged
+    (stack_whole ((let a = c.args in
+          call_of a.edition a.rows a.cols a.codes.now a.accumulation.now a.outlets.now a.place
+          a.dropping)) ((lent c.args.subaccumulation.now c.args.starts.now)) c.args.work.now ((sym c.is_edition.ensures ∙ c.if-not-is_edition.false)) c.prepare-ready.ensures
+    c.if-number-ne0.false (omega (arith, c.if-work-index_of.false, c.index_of.ensures.0)) c.by_stack.ensures.lists_and_clears)

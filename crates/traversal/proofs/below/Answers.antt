@@ -13,7 +13,13 @@ overflow_add-turn c = let s = c.requires in omega (arith, place_below s.on_posit
 
 pub moved-requires : goal.moved-requires
 moved-requires c = let s = c.requires in
-    record { on_position = s.on_position; k_bound = (place_below s.on_position c.place_of-k.ensures s.has_next, next_beside s.on_position c.place_of-k.ensures s.has_next) }
+    record {
+      on_position = s.on_position;
+      k_bound = (
+        place_below s.on_position c.place_of-k.ensures s.has_next,
+        next_beside s.on_position c.place_of-k.ensures s.has_next,
+      );
+    }
 
 pub returns : goal.returns
 returns c =

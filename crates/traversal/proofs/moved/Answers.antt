@@ -39,7 +39,8 @@ pub returns : goal.returns
 returns c =
     let m = c.neighbour_at-n.ensures in
     record {
-      is_there = c.requires.k_bound.1.1 ∙ ap some (sym (number_there c.requires.on_position c.requires.k_bound.0 c.requires.k_bound.1 m));
+      is_there = c.requires.k_bound.1.1
+          ∙ ap some (sym (number_there c.requires.on_position c.requires.k_bound.0 c.requires.k_bound.1 m));
       on = numbered_there c.requires.on_position c.requires.k_bound.0 c.requires.k_bound.1 m;
       is_turn = refl;
     }

@@ -1,0 +1,8 @@
+-- `report::number_at` meets its contract.
+-- Assumes nothing.
+use borrow.Author.Rules.{rules}
+use Rattle.report.proofs.number_at.Goals as goal
+
+pub returns : goal.returns
+returns c =
+    rw c.in_numbers-n.ensures c.trace_by_stack-t.ensures.traces.numbered

@@ -1,0 +1,58 @@
+-- `tracingall::search_all` meets its contract.
+-- Assumes nothing.
+use native.Mathlib.Omega.{arith}
+use borrow.Author.Rules.{rules}
+use Rattle.lists.proofs.Kept.{kept_then}
+use Rattle.ground.specs.Grid.{grid_of}
+use Rattle.passes.proofs.Counting.{kept_traceable}
+use Rattle.tracingall.proofs.Deciding.{clears_all, total, searched_21, searched_0}
+use Rattle.tracingall.proofs.search_all.Goals as goal
+
+pub clear-requires : goal.clear-requires
+clear-requires c =
+    omega (arith, c.requires.end_value.0, c.requires.searchable.list.room, c.count_all-s.ensures.kept.same_length)
+
+pub returns-then-starts-index_of : goal.returns-then-starts-index_of
+returns-then-starts-index_of c =
+    let a = c.args in
+    let g = grid_of a.rows a.cols a.codes.now in
+    searched_21 g a.outlets.now a.edition c.count_all-s.ensures.counts c.index_of.ensures.0
+    (clears_all g a.outlets.now c.requires.end_value.0 c.requires.searchable.list.room c.count_all-s.ensures.kept c.clear.ensures)
+    c.if-starts-index_of.true
+
+pub list_all-requires : goal.list_all-requires
+list_all-requires c =
+    let a = c.args in
+    let g = grid_of a.rows a.cols a.codes.now in record { searchable = record {
+        ready = c.requires.searchable.ready;
+        met = c.requires.searchable.met;
+        list = kept_traceable c.requires.searchable.list c.count_all-s.ensures.kept;
+      }; outlets_in_bounds = (
+        omega (
+          arith,
+          c.if-starts-index_of.false,
+          total g a.outlets.now a.edition c.count_all-s.ensures.counts
+              c.index_of.ensures.0,
+        ),
+        c.count_all-s.ensures.few_paths,
+        c.requires.end_value.1,
+      ) }
+
+pub clear-requires-2 : goal.clear-requires-2
+clear-requires-2 c =
+    omega (
+      arith,
+      c.requires.end_value.0,
+      c.requires.searchable.list.room,
+      c.count_all-s.ensures.kept.same_length,
+      c.list_all.ensures.kept.same_length,
+    )
+
+pub returns : goal.returns
+returns c =
+    let a = c.args in
+    let g = grid_of a.rows a.cols a.codes.now in
+    let k = kept_then c.count_all-s.ensures.kept c.list_all.ensures.kept in
+    searched_0 g a.outlets.now a.edition c.count_all-s.ensures.counts c.index_of.ensures.0
+    (clears_all g a.outlets.now c.requires.end_value.0 c.requires.searchable.list.room k c.clear-2.ensures) c.if-starts-index_of.false
+    c.list_all.ensures
