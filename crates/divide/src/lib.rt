@@ -1,6 +1,7 @@
 // The divide of a subwatershed, told by notes in the lent subaccumulation grid: its cells are gathered and noted as
 // inside, those beside no outside cell are noted as enclosed, and then none is inside any more.
 #![tactic(auto)]
+
 ghost use Rattle.std.specs.Prelude.{◌≡◌, ◌*◌, ◌+◌, ◌≤◌, ◌<◌, length, get_or};
 ghost use Rattle.lists.specs.Slices.{Within};
 ghost use Rattle.ground.specs.Grid.{grid_of};

@@ -1,5 +1,6 @@
 // The cell that a cell flows to, by its number: a step adds an offset to the number, and multiplies nothing.
 #![tactic(auto)]
+
 ghost use Rattle.std.specs.Prelude.{◌≡◌, ◌+◌, ◌≤◌};
 ghost use Rattle.ground.specs.Tables.{table1, dir_of};
 ghost use Rattle.ground.specs.Grid.{grid_of};

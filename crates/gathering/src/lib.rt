@@ -1,6 +1,7 @@
 // The cells of a subwatershed, listed from the outlet on and noted as inside. The notes of the outlets keep it from
 // going beyond an upper one; the list of outlets itself is named for the contracts' sake.
 #![tactic(auto)]
+
 ghost use Rattle.std.specs.Prelude.{[], ◌∷◌, ◌*◌, ◌+◌, ◌≤◌, ◌<◌, length};
 ghost use Rattle.ground.specs.Compass.{dirs};
 ghost use Rattle.ground.specs.Grid.{grid_of};

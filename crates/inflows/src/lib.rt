@@ -1,5 +1,6 @@
 // The inflow record of a cell: what its neighbours have that flow in.
 #![tactic(auto)]
+
 ghost use Rattle.std.specs.Prelude.{◌≡◌, ◌*◌, ◌+◌};
 ghost use Rattle.lists.specs.Lists.{sum_of};
 ghost use Rattle.ground.specs.Grid.{grid_of, inflow_record};

@@ -1,5 +1,6 @@
 // What a tracing answers by what its search has found, and the list of starts.
 #![tactic(auto)]
+
 ghost use Rattle.std.specs.Prelude.{◌≡◌, ◌≤◌, length};
 ghost use Rattle.lists.specs.Slices.{overlaid};
 ghost use Rattle.answers.specs.declared.Answer.TheVariants.{NoPlace};

@@ -1,6 +1,7 @@
 // Steps over the ground: the step of each code, the cell that a cell flows to, the walk, and the neighbours that flow
 // in.
 #![tactic(auto)]
+
 ghost use Rattle.std.specs.Prelude.{◌≡◌, ◌*◌, ◌+◌, ◌<◌, get_or};
 ghost use Rattle.ground.specs.Grid.{grid_of};
 ghost use Rattle.moves.specs.Lent.{OnCell};

@@ -1,6 +1,7 @@
 // The number of an edition, and the words of the lent subaccumulation grid while a tracing is at work: a cell's
 // subaccumulation, at most 2^24, and above it three notes.
 #![tactic(auto)]
+
 ghost use Rattle.std.specs.Prelude.{◌≡◌};
 ghost use Rattle.search.specs.Editions.{is_edition};
 ghost use Rattle.notes.specs.Notes.{cells_held, met_by};

@@ -1,6 +1,7 @@
 // The lent subaccumulation grid made ready for searches by an edition, and as it was after them. Edition 1 asks for
 // nothing; by edition 2 outlets and enclosed cells are noted.
 #![tactic(auto)]
+
 ghost use Rattle.std.specs.Prelude.{◌≤◌, length};
 ghost use Rattle.noting.specs.Noting.{Fresh, Places, Readied, Unnoted};
 

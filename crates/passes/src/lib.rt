@@ -1,6 +1,7 @@
 // The two passes over the outlets of a list, in a grid that is ready for their searches: the first counts, the second
 // lists.
 #![tactic(auto)]
+
 ghost use Rattle.std.specs.Prelude.{◌≤◌, ◌^◌, length};
 ghost use Rattle.lists.specs.Lists.{sum_of};
 ghost use Rattle.ground.specs.Grid.{grid_of};

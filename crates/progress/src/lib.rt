@@ -1,5 +1,6 @@
 // How far a search has come: the starts it has met, and what it has visited and dropped. Both engines use it.
 #![tactic(auto)]
+
 ghost use Rattle.std.specs.Prelude.{◌≡◌, ◌&&◌, ◌+◌, ◌-◌, ◌≤◌, ◌<◌, ◌^◌, length, set};
 ghost use Rattle.lengths.specs.Lengths.{square_cells, farthest};
 ghost use Rattle.progress.specs.Starts.{progress_of, begun, is_below, Room, Met, Visited};

@@ -1,5 +1,6 @@
 // The desk's whole answer to a file, as text in lent bytes.
 #![tactic(auto)]
+
 ghost use Rattle.std.specs.Prelude.{◌≡◌, ◌≤◌, ◌<◌, length, take, get_or};
 ghost use Rattle.lists.specs.Slices.{zeros};
 ghost use Rattle.answers.specs.Entries.{catchment};

@@ -1,6 +1,7 @@
 // The tables of codes, each as the list of its codes: those of no direction, 0 for a null cell and 255 for a pond, then
 // those of E, SE, S, SW, W, NW, N, NE.
 #![tactic(auto)]
+
 ghost use Rattle.std.specs.Prelude.{◌≡◌, ◌≤◌, length, get_or};
 ghost use Rattle.lists.specs.Lists.{member, all_below};
 ghost use Rattle.ground.specs.Tables.{table1, is_table, table_of, codes_of, is_code};

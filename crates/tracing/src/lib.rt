@@ -1,5 +1,6 @@
 // Tracing all longest paths to an outlet of a list.
 #![tactic(auto)]
+
 ghost use Rattle.std.specs.Prelude.{◌≡◌, ◌*◌, ◌≤◌, length, get_or};
 ghost use Rattle.search.specs.Tracing.{numbers_each};
 ghost use Rattle.ground.specs.Grid.{grid_of};

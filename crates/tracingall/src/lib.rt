@@ -1,5 +1,6 @@
 // All outlets of a list traced from one reading of the grid.
 #![tactic(auto)]
+
 ghost use Rattle.std.specs.Prelude.{◌≡◌, map, ◌*◌, ◌≤◌, length, get_or};
 ghost use Rattle.lists.specs.Lists.{greatest_of};
 ghost use Rattle.lists.specs.Slices.{Within};

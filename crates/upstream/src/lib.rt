@@ -1,5 +1,6 @@
 // What the search turns to from a cell: the neighbours that flow in and are no outlets, and the steps into them.
 #![tactic(auto)]
+
 ghost use Rattle.std.specs.Prelude.{◌≡◌, true, ◌<◌};
 ghost use Rattle.ground.specs.Compass.{opposite, step_of};
 ghost use Rattle.moves.specs.Lent.{OnCell};

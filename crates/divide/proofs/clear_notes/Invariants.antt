@@ -1,11 +1,9 @@
 -- `divide::clear_notes` meets its contract. The invariant: the first i words have no notes.
 -- Assumes nothing.
 use Prim.Native.Nat.{◌-◌, ◌≤◌}
-use borrow.Author.Rules.{rules}
 use lib.Dec.{ltb}
 use Rattle.notes.specs.Notes.{cells_held}
 use Rattle.divide.specs.Divides.{Changes}
-use Rattle.divide.proofs.Changing.{clears_none, clears_more, clears_all}
 use Rattle.divide.proofs.clear_notes.Given as goal
 
 abbrev pub invariant-loop-i : goal.invariant-loop-i

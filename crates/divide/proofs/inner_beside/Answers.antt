@@ -1,14 +1,8 @@
 -- `divide::inner_beside` meets its contract. The invariant: the neighbours that are left decide.
 -- Assumes nothing.
-use mathlib.Core.Path.{◌≡◌}
-use Prim.Native.Nat.{◌+◌, ◌*◌, ◌-◌, ◌≤◌}
 use native.Mathlib.Omega.{arith}
 use borrow.Author.Rules.{rules}
-use lib.ListN.{drop}
-use Rattle.ground.specs.Compass.{dirs}
-use Rattle.ground.specs.Grid.{grid_of}
 use Rattle.moves.proofs.Spots.{size}
-use Rattle.divide.specs.Divides.{beside_outside, outside_in}
 use Rattle.divide.proofs.Beside.{beside_begins, beside_found, beside_goes_on, beside_ends}
 use Rattle.divide.proofs.inner_beside.Goals as goal
 

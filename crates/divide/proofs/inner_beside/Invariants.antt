@@ -2,14 +2,10 @@
 -- Assumes nothing.
 use mathlib.Core.Path.{◌≡◌}
 use Prim.Native.Nat.{◌+◌, ◌*◌, ◌-◌, ◌≤◌}
-use native.Mathlib.Omega.{arith}
-use borrow.Author.Rules.{rules}
 use lib.ListN.{drop}
 use Rattle.ground.specs.Compass.{dirs}
 use Rattle.ground.specs.Grid.{grid_of}
-use Rattle.moves.proofs.Spots.{size}
 use Rattle.divide.specs.Divides.{beside_outside, outside_in}
-use Rattle.divide.proofs.Beside.{beside_begins, beside_found, beside_goes_on, beside_ends}
 use Rattle.divide.proofs.inner_beside.Given as goal
 
 abbrev pub invariant-loop-k : goal.invariant-loop-k

@@ -1,6 +1,5 @@
 -- `divide::is_beside` meets its contract: a border cell has a neighbour off the grid.
 -- Assumes nothing.
-use native.Mathlib.Omega.{arith}
 use Rattle.divide.proofs.Beside.{first_row, last_row, first_col, last_col}
 use Rattle.divide.proofs.is_beside.Goals.{
   else-row-ge1-via-then-row-ge1+then-row-rows+then-col-ge1+else-col-cols,

@@ -1,7 +1,7 @@
 -- `divide::leave_cells` meets its contract. The invariant: the first k cells are left.
 -- Assumes nothing.
 use mathlib.Core.Path.{◌≡◌, refl, subst}
-use Prim.Native.Nat.{ℕ, ◌+◌, ◌*◌, ◌/◌, ◌%◌, ◌-◌, ◌≤◌, ◌<◌}
+use Prim.Native.Nat.{ℕ, ◌+◌, ◌*◌, ◌/◌, ◌%◌, ◌≤◌, ◌<◌}
 use native.Mathlib.Omega.{arith}
 use borrow.Author.Rules.{rules}
 use lib.ListN.{length}
@@ -38,12 +38,11 @@ pub bounds-grid-at-in-loop-k : goal.bounds-grid-at-in-loop-k
 bounds-grid-at-in-loop-k c = (let held : (c.index_of-cell.result / 4096 * c.args.cols + c.index_of-cell.result % 4096) < length c.loop-k.grid = omega (arith, (cell_inside c.requires.on_list c.loop-k-test.true c.index_of-cell.ensures.0), c.requires.has_room, c.loop-k.invariant.1.kept.same_length) in held)
 
 pub loop-k-preserved : goal.loop-k-preserved
-loop-k-preserved c =
-    (
-      search rules,
-      leaves_more c.requires.on_list c.loop-k-test.true c.index_of-cell.ensures.0
-          c.requires.has_room c.loop-k.invariant.1,
-    )
+loop-k-preserved c = (
+  search rules,
+  leaves_more c.requires.on_list c.loop-k-test.true c.index_of-cell.ensures.0
+      c.requires.has_room c.loop-k.invariant.1,
+)
 
 pub shape_of-grid : goal.shape_of-grid
 shape_of-grid c = c.loop-k.invariant.1.kept.same_length

@@ -1,13 +1,7 @@
 -- `divide::leave_cells` meets its contract. The invariant: the first k cells are left.
 -- Assumes nothing.
-use mathlib.Core.Path.{◌≡◌, refl, subst}
-use Prim.Native.Nat.{ℕ, ◌+◌, ◌*◌, ◌/◌, ◌%◌, ◌-◌, ◌≤◌, ◌<◌}
-use native.Mathlib.Omega.{arith}
-use borrow.Author.Rules.{rules}
-use lib.ListN.{length}
-use Rattle.moves.proofs.Spots.{size}
+use Prim.Native.Nat.{◌-◌, ◌≤◌}
 use Rattle.divide.specs.Divides.{LeavesCells}
-use Rattle.divide.proofs.Changing.{changes_none, cell_inside, leaves_more}
 use Rattle.divide.proofs.leave_cells.Given as goal
 
 abbrev pub invariant-loop-k : goal.invariant-loop-k

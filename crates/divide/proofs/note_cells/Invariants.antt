@@ -1,14 +1,7 @@
 -- `divide::note_cells` meets its contract. The invariant: of the first k cells those on the divide are noted.
 -- Assumes nothing.
-use mathlib.Core.Path.{◌≡◌, refl, subst}
-use mathlib.Core.Logic.{⊎_elim}
-use Prim.Native.Nat.{ℕ, ◌+◌, ◌*◌, ◌/◌, ◌%◌, ◌-◌, ◌≤◌, ◌<◌}
-use native.Mathlib.Omega.{arith}
-use borrow.Author.Rules.{rules}
-use lib.ListN.{length}
-use Rattle.moves.proofs.Spots.{size}
+use Prim.Native.Nat.{◌-◌, ◌≤◌}
 use Rattle.divide.specs.Divides.{NotesCells}
-use Rattle.divide.proofs.Changing.{changes_none, cell_row, cell_col, cell_inside, notes_more, notes_past}
 use Rattle.divide.proofs.note_cells.Given as goal
 
 abbrev pub invariant-loop-k : goal.invariant-loop-k

@@ -1,6 +1,5 @@
 -- `divide::note_enclosed` meets its contract: the cells are gathered, noted and left.
 -- Assumes nothing.
-use borrow.Author.Rules.{rules}
 use Rattle.divide.proofs.Gathered.{can_gather, enclosed_made}
 use Rattle.divide.proofs.note_enclosed.Goals as goal
 

@@ -1,13 +1,10 @@
 -- `divide::note_outlets` meets its contract. The invariant: the first j outlets are noted.
 -- Assumes nothing.
 use mathlib.Core.Path.{refl}
-use Prim.Native.Nat.{◌-◌, ◌≤◌, ◌<◌}
+use Prim.Native.Nat.{◌<◌}
 use native.Mathlib.Omega.{arith}
 use borrow.Author.Rules.{rules}
-use lib.ListN.{length, take}
-use Rattle.lists.specs.Lists.{member}
-use Rattle.notes.specs.Notes.{with_outlet}
-use Rattle.divide.specs.Divides.{Changes}
+use lib.ListN.{length}
 use Rattle.divide.proofs.Changing.{changes_none, outlets_more, outlets_all}
 use Rattle.divide.proofs.note_outlets.Goals as goal
 
@@ -16,23 +13,23 @@ loop-j-init c = (search rules, changes_none (λ x. refl))
 
 pub bounds-grid-at : goal.bounds-grid-at
 bounds-grid-at c = (let held : c.index_of-at.result < length c.loop-j.grid = let l = c.loop-j in
-          omega (
-            arith,
-            c.index_of-at.ensures,
-            c.requires.0,
-            c.requires.1 l.j c.loop-j-test.true,
-            l.invariant.1.kept.same_length,
-          ) in held)
+    omega (
+      arith,
+      c.index_of-at.ensures,
+      c.requires.0,
+      c.requires.1 l.j c.loop-j-test.true,
+      l.invariant.1.kept.same_length,
+    ) in held)
 
 pub bounds-grid-at-in-loop-j : goal.bounds-grid-at-in-loop-j
 bounds-grid-at-in-loop-j c = (let held : c.index_of-at.result < length c.loop-j.grid = let l = c.loop-j in
-          omega (
-            arith,
-            c.index_of-at.ensures,
-            c.requires.0,
-            c.requires.1 l.j c.loop-j-test.true,
-            l.invariant.1.kept.same_length,
-          ) in held)
+    omega (
+      arith,
+      c.index_of-at.ensures,
+      c.requires.0,
+      c.requires.1 l.j c.loop-j-test.true,
+      l.invariant.1.kept.same_length,
+    ) in held)
 
 pub loop-j-preserved : goal.loop-j-preserved
 loop-j-preserved c =

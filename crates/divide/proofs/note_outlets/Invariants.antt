@@ -1,14 +1,10 @@
 -- `divide::note_outlets` meets its contract. The invariant: the first j outlets are noted.
 -- Assumes nothing.
-use mathlib.Core.Path.{refl}
-use Prim.Native.Nat.{◌-◌, ◌≤◌, ◌<◌}
-use native.Mathlib.Omega.{arith}
-use borrow.Author.Rules.{rules}
+use Prim.Native.Nat.{◌-◌, ◌≤◌}
 use lib.ListN.{length, take}
 use Rattle.lists.specs.Lists.{member}
 use Rattle.notes.specs.Notes.{with_outlet}
 use Rattle.divide.specs.Divides.{Changes}
-use Rattle.divide.proofs.Changing.{changes_none, outlets_more, outlets_all}
 use Rattle.divide.proofs.note_outlets.Given as goal
 
 abbrev pub invariant-loop-j : goal.invariant-loop-j

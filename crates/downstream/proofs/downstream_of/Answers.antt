@@ -4,7 +4,6 @@ use mathlib.Core.Path.{◌≡◌}
 use Prim.Native.Nat.{◌+◌, ◌*◌, ◌<◌}
 use lib.ListN.{get_or}
 use native.Mathlib.Omega.{arith}
-use borrow.Author.Rules.{rules}
 use Rattle.ground.specs.Tables.{table1, dir_of}
 use Rattle.downstream.proofs.Steps.{place_in}
 use Rattle.downstream.proofs.Flowing.{at_inside, led_in_reach, number_is, number_fits, to_inside, ends_nowhere}
@@ -36,29 +35,35 @@ offset_bounds-offsets-place c = omega (arith, place_below c)
 
 pub bounds-offsets-place : goal.bounds-offsets-place
 bounds-offsets-place c = (let held : c.place_of-place.result < 8 = omega (
-        arith,
-        c.place_of-place.ensures,
-        place_in
-            (dir_of table1 (get_or c.args.codes.now c.args.at 0)),
-      ) in held)
+  arith,
+  c.place_of-place.ensures,
+  place_in
+      (dir_of table1 (get_or c.args.codes.now c.args.at 0)),
+) in held)
 
 pub overflow_add-to : goal.overflow_add-to
-overflow_add-to c = omega (arith, (let held : let a = c.args in (a.at + get_or a.offsets.now c.place_of-place.result 0 ≡ c.in-On.r * a.cols + c.in-On.c + (a.cols + 1)) × (a.at + get_or a.offsets.now c.place_of-place.result 0 < 4096 * 4096 + (2 * 4096 + 3)) = let l = c.lead_of.ensures in
-          let m = c.in-By.is in
-          let s = c.spot_at.ensures in
-          let r = c.in-On.is in (
-            number_is c.requires l m s r c.place_of-place.ensures,
-            number_fits c.requires l m s r c.place_of-place.ensures,
-          ) in held))
+overflow_add-to c = omega (
+  arith,
+  (let held : let a = c.args in (a.at + get_or a.offsets.now c.place_of-place.result 0 ≡ c.in-On.r * a.cols + c.in-On.c + (a.cols + 1)) × (a.at + get_or a.offsets.now c.place_of-place.result 0 < 4096 * 4096 + (2 * 4096 + 3)) = let l = c.lead_of.ensures in
+      let m = c.in-By.is in
+      let s = c.spot_at.ensures in
+      let r = c.in-On.is in (
+        number_is c.requires l m s r c.place_of-place.ensures,
+        number_fits c.requires l m s r c.place_of-place.ensures,
+      ) in held),
+)
 
 pub overflow_sub-to : goal.overflow_sub-to
-overflow_sub-to c = omega (arith, (let held : let a = c.args in (a.at + get_or a.offsets.now c.place_of-place.result 0 ≡ c.in-On.r * a.cols + c.in-On.c + (a.cols + 1)) × (a.at + get_or a.offsets.now c.place_of-place.result 0 < 4096 * 4096 + (2 * 4096 + 3)) = let l = c.lead_of.ensures in
-          let m = c.in-By.is in
-          let s = c.spot_at.ensures in
-          let r = c.in-On.is in (
-            number_is c.requires l m s r c.place_of-place.ensures,
-            number_fits c.requires l m s r c.place_of-place.ensures,
-          ) in held))
+overflow_sub-to c = omega (
+  arith,
+  (let held : let a = c.args in (a.at + get_or a.offsets.now c.place_of-place.result 0 ≡ c.in-On.r * a.cols + c.in-On.c + (a.cols + 1)) × (a.at + get_or a.offsets.now c.place_of-place.result 0 < 4096 * 4096 + (2 * 4096 + 3)) = let l = c.lead_of.ensures in
+      let m = c.in-By.is in
+      let s = c.spot_at.ensures in
+      let r = c.in-On.is in (
+        number_is c.requires l m s r c.place_of-place.ensures,
+        number_fits c.requires l m s r c.place_of-place.ensures,
+      ) in held),
+)
 
 pub bounds-codes-to : goal.bounds-codes-to
 bounds-codes-to c =

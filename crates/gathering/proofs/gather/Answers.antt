@@ -1,11 +1,9 @@
 -- `gathering::gather` meets its contract: the newest listed cell is always the next to have its tributaries listed.
 -- Assumes nothing.
-use Prim.Native.Nat.{◌+◌, ◌-◌, ◌*◌}
+use Prim.Native.Nat.{◌+◌, ◌*◌}
 use native.Mathlib.Omega.{arith}
-use lib.ListN.{length}
-use borrow.Author.Rules.{rules}
 use Rattle.gathering.specs.Gathering.{Gathers}
-use Rattle.gathering.proofs.Gathering.{Gathered, outlet_placed, some_room, gathered_first, can_follow}
+use Rattle.gathering.proofs.Gathering.{outlet_placed, some_room, gathered_first, can_follow}
 use Rattle.gathering.proofs.Gathering.{gathered_next, gathers}
 use Rattle.gathering.proofs.gather.Goals as goal
 

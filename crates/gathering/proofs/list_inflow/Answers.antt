@@ -1,7 +1,6 @@
 -- `gathering::list_inflow` meets its contract: a law for each of the ways to look.
 -- Assumes nothing.
 use native.Mathlib.Omega.{arith}
-use borrow.Author.Rules.{rules}
 use Rattle.gathering.proofs.Following.{Placed}
 use Rattle.gathering.proofs.Listing.{spot_placed, one_fits, lists_off, lists_outlet, lists_on}
 use Rattle.gathering.proofs.list_inflow.Goals as goal

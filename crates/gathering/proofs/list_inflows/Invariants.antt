@@ -1,12 +1,9 @@
 -- `gathering::list_inflows` meets its contract: the first k directions are listed, and then the next.
 -- Assumes nothing.
-use Prim.Native.Nat.{◌≤◌, ◌<◌, ◌-◌}
-use native.Mathlib.Omega.{arith}
+use Prim.Native.Nat.{◌≤◌, ◌-◌}
 use lib.ListN.{take}
-use borrow.Author.Rules.{rules}
 use Rattle.ground.specs.Compass.{dirs}
 use Rattle.gathering.specs.Gathering.{ListsFrom}
-use Rattle.gathering.proofs.Listing.{lists_first, can_one, lists_next, lists_all}
 use Rattle.gathering.proofs.list_inflows.Given as goal
 
 abbrev pub invariant-loop-k : goal.invariant-loop-k

@@ -4,7 +4,6 @@ use mathlib.Core.Path.{refl, sym, ◌∙◌}
 use Prim.Native.Nat.{◌-◌}
 use native.Mathlib.Omega.{arith}
 use lib.ListN.{length-set}
-use borrow.Author.Rules.{rules}
 use Rattle.gathering.specs.Gathering.{exchanged}
 use Rattle.gathering.proofs.Exchanging.{exchange}
 use Rattle.gathering.proofs.newest_first.Goals as goal

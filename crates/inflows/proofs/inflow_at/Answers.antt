@@ -3,7 +3,6 @@
 use native.Mathlib.Omega.{arith}
 use lib.Arith.{digits_lt}
 use Prim.Native.Nat.{◌+◌, ◌*◌, ◌<◌}
-use borrow.Author.Rules.{rules}
 use Rattle.moves.proofs.Spots.{size}
 use Rattle.inflows.proofs.InflowRecord.{value_off, value_in}
 use Rattle.inflows.proofs.inflow_at.Goals as goal
@@ -25,8 +24,12 @@ pub offset_bounds-accumulation-at : goal.offset_bounds-accumulation-at
 offset_bounds-accumulation-at c = omega (arith, reached c, size c.requires.on.grid.sides)
 
 pub bounds-accumulation-at : goal.bounds-accumulation-at
-bounds-accumulation-at c = omega (arith, (let held : c.in-On.r * c.args.cols + c.in-On.c < c.args.rows * c.args.cols = let p = c.inflow_from.ensures in
-          digits_lt (p.row_in _ _ c.in-On.is) (p.col_in _ _ c.in-On.is) in held), c.requires.has_accumulation)
+bounds-accumulation-at c = omega (
+  arith,
+  (let held : c.in-On.r * c.args.cols + c.in-On.c < c.args.rows * c.args.cols = let p = c.inflow_from.ensures in
+      digits_lt (p.row_in _ _ c.in-On.is) (p.col_in _ _ c.in-On.is) in held),
+  c.requires.has_accumulation,
+)
 
 pub returns-in-Off : goal.returns-in-Off
 returns-in-Off c =

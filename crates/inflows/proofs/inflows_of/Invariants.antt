@@ -2,13 +2,9 @@
 -- Assumes nothing.
 use mathlib.Core.Path.{◌≡◌}
 use Prim.Native.Nat.{ℕ, ◌+◌, ◌-◌, ◌*◌, ◌<◌, ◌≤◌}
-use native.Mathlib.Omega.{arith}
-use borrow.Author.Rules.{rules}
 use lib.ListN.{length, get_or}
 use Rattle.ground.specs.Grid.{grid_of}
 use Rattle.inflows.specs.Values.{value_at}
-use Rattle.lists.proofs.Kept.{stored}
-use Rattle.inflows.proofs.InflowRecord.{record_is}
 use Rattle.inflows.proofs.inflows_of.Given as goal
 
 abbrev pub invariant-loop-k : goal.invariant-loop-k

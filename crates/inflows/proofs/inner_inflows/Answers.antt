@@ -1,10 +1,9 @@
 -- `inflows::inner_inflows` meets its contract, as `inflows_of` does.
 -- Assumes nothing.
-use mathlib.Core.Path.{◌≡◌}
-use Prim.Native.Nat.{ℕ, ◌+◌, ◌-◌, ◌*◌, ◌<◌, ◌≤◌}
+use Prim.Native.Nat.{◌+◌, ◌*◌, ◌<◌}
 use native.Mathlib.Omega.{arith}
 use borrow.Author.Rules.{rules}
-use lib.ListN.{length, get_or}
+use lib.ListN.{length}
 use Rattle.ground.specs.Grid.{grid_of}
 use Rattle.inflows.specs.Values.{value_at}
 use Rattle.lists.proofs.Kept.{stored}

@@ -2,7 +2,6 @@
 -- Assumes nothing.
 use Prim.Native.Nat.{◌+◌, ◌-◌, ◌*◌, ◌<◌}
 use native.Mathlib.Omega.{arith}
-use borrow.Author.Rules.{rules}
 use Rattle.moves.specs.Moves.{InReach}
 use Rattle.moves.proofs.Spots.{size, neighbour_in_reach}
 use Rattle.inflows.proofs.InflowRecord.{inner_inside, beside}
@@ -35,13 +34,21 @@ overflow_add-at-2 c =
     omega (arith, i.sides.cols_small, i.col_in, i.right_small)
 
 pub overflow_add-at-3 : goal.overflow_add-at-3
-overflow_add-at-3 c = omega (arith, (let held : (c.args.row + c.neighbour_at-n.result.row - 1) * c.args.cols + (c.args.col + c.neighbour_at-n.result.col - 1) < c.args.rows * c.args.cols = inner_inside c.requires.on c.requires.inner c.args.k
-          c.neighbour_at-n.ensures in held), size c.requires.on.grid.sides)
+overflow_add-at-3 c = omega (
+  arith,
+  (let held : (c.args.row + c.neighbour_at-n.result.row - 1) * c.args.cols + (c.args.col + c.neighbour_at-n.result.col - 1) < c.args.rows * c.args.cols = inner_inside c.requires.on c.requires.inner c.args.k
+      c.neighbour_at-n.ensures in held),
+  size c.requires.on.grid.sides,
+)
 
 pub bounds-codes-at : goal.bounds-codes-at
 bounds-codes-at c =
-    omega (arith, (let held : (c.args.row + c.neighbour_at-n.result.row - 1) * c.args.cols + (c.args.col + c.neighbour_at-n.result.col - 1) < c.args.rows * c.args.cols = inner_inside c.requires.on c.requires.inner c.args.k
-          c.neighbour_at-n.ensures in held), c.requires.on.grid.has_codes)
+    omega (
+      arith,
+      (let held : (c.args.row + c.neighbour_at-n.result.row - 1) * c.args.cols + (c.args.col + c.neighbour_at-n.result.col - 1) < c.args.rows * c.args.cols = inner_inside c.requires.on c.requires.inner c.args.k
+          c.neighbour_at-n.ensures in held),
+      c.requires.on.grid.has_codes,
+    )
 
 pub returns : goal.returns
 returns c =

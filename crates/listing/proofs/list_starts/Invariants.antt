@@ -1,12 +1,7 @@
 -- `listing::list_starts` meets its contract. The invariant: the first k places hold the first k starts.
 -- Assumes nothing.
-use mathlib.Core.Path.{◌≡◌, subst}
-use mathlib.Core.Logic.{◌⊎◌}
-use Prim.Native.Nat.{ℕ, ◌-◌, ◌≤◌, ◌<◌}
-use native.Mathlib.Omega.{arith}
-use borrow.Author.Rules.{rules}
-use lib.ListN.{length}
-use Rattle.listing.proofs.Listing.{Listing, listing_none, listing_more, listed}
+use Prim.Native.Nat.{◌-◌, ◌≤◌}
+use Rattle.listing.proofs.Listing.{Listing}
 use Rattle.listing.proofs.list_starts.Given as goal
 
 abbrev pub invariant-loop-k : goal.invariant-loop-k

@@ -4,7 +4,6 @@ use Prim.Native.Nat.{◌+◌, ◌*◌, ◌<◌}
 use native.Mathlib.Omega.{arith}
 use Rattle.moves.proofs.Spots.{size, spot_inside, neighbour_in_reach}
 use Rattle.moves.proofs.Inflow.{inflow_off, inflow_away, inflow_in_lem}
-use borrow.Author.Rules.{rules}
 use Rattle.moves.proofs.inflow_from.Goals as goal
 
 pub spot_at-requires : goal.spot_at-requires

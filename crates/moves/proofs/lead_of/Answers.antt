@@ -2,7 +2,6 @@
 -- have none.
 -- Assumes nothing.
 use mathlib.Core.Path.{sym, ap, ◌∙◌}
-use borrow.Author.Rules.{rules}
 use Rattle.ground.specs.Tables.{dir_of}
 use Rattle.moves.specs.Moves.{lead_by, lead_of}
 use Rattle.moves.proofs.Codes.{no_dir}

@@ -1,7 +1,6 @@
 -- `ground::neighbour_at` meets its contract: each arm is its direction's numbers, and what is left is NE.
 -- Assumes nothing.
 use mathlib.Core.Path.{sym, ap, ◌∙◌}
-use borrow.Author.Rules.{rules}
 use Rattle.moves.specs.Moves.{neighbour_of}
 use Rattle.moves.proofs.Spots.{last_dir}
 use Rattle.moves.proofs.neighbour_at.Goals as goal

@@ -2,7 +2,6 @@
 -- Assumes nothing.
 use mathlib.Core.Path.{sym, ap, ◌∙◌}
 use Rattle.moves.specs.Moves.{step_by}
-use borrow.Author.Rules.{rules}
 use Rattle.moves.proofs.step_of.Goals as goal
 
 pub returns-in-Nowhere : goal.returns-in-Nowhere

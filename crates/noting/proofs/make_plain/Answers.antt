@@ -1,6 +1,5 @@
 -- `noting::make_plain` meets its contract.
 -- Assumes nothing.
-use borrow.Author.Rules.{rules}
 use borrow.Author.Tests.{eq-eqb, ne_eqb}
 use Rattle.lists.proofs.Kept.{kept_all}
 use Rattle.noting.proofs.make_plain.Goals as goal

@@ -1,12 +1,10 @@
 -- `noting::make_ready` meets its contract: the outlets are noted, then one divide after the other.
 -- Assumes nothing.
 use mathlib.Core.Path.{◌≡◌, ◌∙◌, subst}
-use Prim.Native.Nat.{ℕ, ◌-◌, ◌*◌, ◌≤◌}
+use Prim.Native.Nat.{ℕ}
 use native.Mathlib.Omega.{arith}
 use lib.ListN.{length}
-use borrow.Author.Rules.{rules}
 use borrow.Author.Tests.{eq-eqb, ne_eqb}
-use Rattle.lists.specs.Slices.{Kept}
 use Rattle.lists.proofs.Kept.{kept_all, kept_then}
 use Rattle.noting.proofs.Readying.{Marked, ListKept, list_next, few, outlets_within, ready_plain, marked_begin}
 use Rattle.noting.proofs.Readying.{can_note, marked_next, ready_marked}
@@ -20,14 +18,13 @@ note_outlets-requires c =
     (c.requires.fresh.has_room, outlets_within c.requires.fresh)
 
 pub loop-j-init : goal.loop-j-init
-loop-j-init c =
-    (
-      omega arith,
-      c.requires.places.in_order,
-      marked_begin c.requires.fresh c.args.first c.note_outlets.ensures,
-      kept_all,
-      λ most f. kept_all,
-    )
+loop-j-init c = (
+  omega arith,
+  c.requires.places.in_order,
+  marked_begin c.requires.fresh c.args.first c.note_outlets.ensures,
+  kept_all,
+  λ most f. kept_all,
+)
 
 pub loop-j-preserved : goal.loop-j-preserved
 loop-j-preserved c =

@@ -1,12 +1,9 @@
 -- `passes::count_all` meets its contract. The invariant: the outlets before the place are counted.
 -- Assumes nothing.
-use Prim.Native.Nat.{◌+◌, ◌-◌, ◌≤◌, ◌^◌}
 use native.Mathlib.Omega.{arith}
-use lib.ListN.{length}
 use Rattle.lists.proofs.Kept.{kept_all}
 use Rattle.ground.specs.Grid.{grid_of}
-use Rattle.passes.specs.Passes.{WorkKept}
-use Rattle.passes.proofs.Counting.{Counting, counting_none, counting_more, counting_fits, counted_all, few_counted}
+use Rattle.passes.proofs.Counting.{counting_none, counting_more, counting_fits, counted_all, few_counted}
 use Rattle.passes.proofs.Counting.{searchable_at, kept_search}
 use Rattle.passes.proofs.count_all.Goals as goal
 

@@ -1,13 +1,10 @@
 -- `passes::count_all` meets its contract. The invariant: the outlets before the place are counted.
 -- Assumes nothing.
-use Prim.Native.Nat.{◌+◌, ◌-◌, ◌≤◌, ◌^◌}
-use native.Mathlib.Omega.{arith}
+use Prim.Native.Nat.{◌-◌, ◌≤◌}
 use lib.ListN.{length}
-use Rattle.lists.proofs.Kept.{kept_all}
 use Rattle.ground.specs.Grid.{grid_of}
 use Rattle.passes.specs.Passes.{WorkKept}
-use Rattle.passes.proofs.Counting.{Counting, counting_none, counting_more, counting_fits, counted_all, few_counted}
-use Rattle.passes.proofs.Counting.{searchable_at, kept_search}
+use Rattle.passes.proofs.Counting.{Counting}
 use Rattle.passes.proofs.count_all.Given as goal
 
 abbrev pub invariant-loop-place : goal.invariant-loop-place

@@ -2,7 +2,7 @@
 -- both lists stores all.
 -- Assumes nothing.
 use mathlib.Core.Path.{ap, ◌∙◌}
-use Prim.Native.Nat.{ℕ, ◌+◌, ◌-◌, ◌≤◌, ◌<◌}
+use Prim.Native.Nat.{ℕ, ◌+◌, ◌≤◌, ◌<◌}
 use native.Mathlib.Omega.{arith}
 use borrow.Author.Rules.{rules}
 use lib.ListN.{length, get_or}
@@ -10,9 +10,8 @@ use lib.Seq.{sets}
 use Rattle.lists.proofs.Kept.{kept_all}
 use Rattle.ground.specs.Grid.{grid_of}
 use Rattle.alloutlets.proofs.AllOutlets.{starts_to, long_starts}
-use Rattle.passes.specs.Passes.{WorkKept}
 use Rattle.passes.proofs.Counting.{paths_to, searchable_at, kept_search}
-use Rattle.passes.proofs.Listing.{Listing, listing_none, listing_more, within}
+use Rattle.passes.proofs.Listing.{listing_none, listing_more, within}
 use Rattle.passes.proofs.Listing.{put_part, fits_all, all_listed, all_counted}
 use Rattle.passes.proofs.list_all.Goals as goal
 
@@ -23,9 +22,13 @@ loop-j-init c =
 
 -- from there on it is written
 placed : (c : goal.After-index_of-from) → c.index_of-from.result ≤ length c.loop-j.starts
-placed c = omega (arith, (let held : let a = c.args in let l = c.loop-j in l.total + paths_to a.edition (grid_of a.rows a.cols a.codes.now) a.outlets.now (get_or a.outlets.now l.j 0) ≤ length l.starts = let a = c.args in
-          within a.edition (grid_of a.rows a.cols a.codes.now) a.outlets.now ((let held : c.loop-j.j < length c.args.outlets.now = omega (arith, c.loop-j-test.true) in held)) c.requires.outlets_in_bounds.0
-          c.loop-j.invariant.1 in held), c.index_of-from.ensures.0)
+placed c = omega (
+  arith,
+  (let held : let a = c.args in let l = c.loop-j in l.total + paths_to a.edition (grid_of a.rows a.cols a.codes.now) a.outlets.now (get_or a.outlets.now l.j 0) ≤ length l.starts = let a = c.args in
+      within a.edition (grid_of a.rows a.cols a.codes.now) a.outlets.now ((let held : c.loop-j.j < length c.args.outlets.now = omega (arith, c.loop-j-test.true) in held)) c.requires.outlets_in_bounds.0
+      c.loop-j.invariant.1 in held),
+  c.index_of-from.ensures.0,
+)
 
 pub offset_bounds-starts-from : goal.offset_bounds-starts-from
 offset_bounds-starts-from c = search (rules, c.index_of-from.ensures.1)
@@ -76,9 +79,14 @@ loop-j-preserved c =
     let long = long_starts a.edition g a.outlets.now (get_or a.outlets.now l.j 0) in (
       omega (arith, h),
       listing_more a.edition g a.outlets.now h c.requires.outlets_in_bounds.0 l.invariant.1 c.list_at-p.result.paths
-          (put_part l.starts cs c.index_of-from.result (omega (arith, (let held : let a = c.args in let l = c.loop-j in l.total + paths_to a.edition (grid_of a.rows a.cols a.codes.now) a.outlets.now (get_or a.outlets.now l.j 0) ≤ length l.starts = let a = c.args in
-          within a.edition (grid_of a.rows a.cols a.codes.now) a.outlets.now ((let held : c.loop-j.j < length c.args.outlets.now = omega (arith, c.loop-j-test.true) in held)) c.requires.outlets_in_bounds.0
-          c.loop-j.invariant.1 in held), e, long))
+          (put_part l.starts cs c.index_of-from.result (omega (
+            arith,
+            (let held : let a = c.args in let l = c.loop-j in l.total + paths_to a.edition (grid_of a.rows a.cols a.codes.now) a.outlets.now (get_or a.outlets.now l.j 0) ≤ length l.starts = let a = c.args in
+                within a.edition (grid_of a.rows a.cols a.codes.now) a.outlets.now ((let held : c.loop-j.j < length c.args.outlets.now = omega (arith, c.loop-j-test.true) in held)) c.requires.outlets_in_bounds.0
+                c.loop-j.invariant.1 in held),
+            e,
+            long,
+          ))
           r.lists ∙ ap (λ (n : ℕ). sets l.starts n cs) e)
           r.counted.count,
       kept_search c.requires.searchable.list l.invariant.2 h r.only,

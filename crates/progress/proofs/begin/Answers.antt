@@ -1,6 +1,5 @@
 -- `progress::begin` meets its contract.
 -- Assumes nothing.
-use borrow.Author.Rules.{rules}
 use Rattle.progress.proofs.begin.Goals as goal
 
 pub returns : goal.returns

@@ -5,8 +5,6 @@ use Prim.Native.Nat.{◌-◌}
 use native.Mathlib.Omega.{arith}
 use mathlib.Core.Bool.{Bool, true, ◌&&◌, and-false}
 use Rattle.progress.specs.declared.Progress.{Progress}
-use Prim.Native.Nat.{ℕ}
-use borrow.Author.Tests.{not-true, not-false}
 use Rattle.lengths.specs.declared.Length.{Length}
 use Rattle.lengths.specs.declared.Order.{Order}
 use Rattle.lengths.specs.declared.Order.TheVariants.{Shorter, Same, Longer}
@@ -14,7 +12,6 @@ use Rattle.lengths.specs.Rule.{compared, says_shorter}
 use Rattle.lengths.specs.Lengths.{square_cells, farthest}
 use Rattle.progress.specs.Starts.{is_below}
 use Rattle.progress.proofs.Kept.{none_met, limit_says}
-use borrow.Author.Rules.{rules}
 use Rattle.progress.proofs.is_dropped.Goals as goal
 
 -- the test is what the comparison says

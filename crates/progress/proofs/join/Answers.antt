@@ -3,7 +3,6 @@
 use mathlib.Core.Path.{refl, ap}
 use Prim.Native.Nat.{ℕ, ◌-◌}
 use lib.ListN.{set}
-use borrow.Author.Rules.{rules}
 use Rattle.progress.proofs.join.Goals as goal
 
 pub returns : goal.returns

@@ -12,7 +12,6 @@ use Rattle.progress.proofs.Kept.{
   first_met,
   some_kept,
 }
-use borrow.Author.Rules.{rules}
 use Rattle.progress.proofs.meet.Goals as goal
 
 pub returns-then-p-eq0 : goal.returns-then-p-eq0

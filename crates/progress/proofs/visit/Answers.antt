@@ -1,7 +1,6 @@
 -- `progress::visit` meets its contract: one more cell is counted, and a headwater meets its length.
 -- Assumes nothing.
 use Rattle.progress.proofs.Kept.{visited_met, visited_past}
-use borrow.Author.Rules.{rules}
 use Rattle.progress.proofs.visit.Goals as goal
 
 pub meet-requires : goal.meet-requires

@@ -2,7 +2,6 @@
 -- Assumes nothing.
 use mathlib.Core.Path.{sym}
 use lib.Seq.{length-take-le}
-use borrow.Author.Rules.{rules}
 use Rattle.report.proofs.Starts.{first_taken}
 use Rattle.report.proofs.first_of.Goals as goal
 

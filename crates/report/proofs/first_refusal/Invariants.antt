@@ -1,13 +1,10 @@
 -- `report::first_refusal` meets its contract: what is left to ask answers for all.
 -- Assumes nothing.
-use mathlib.Core.Path.{◌≡◌, sym, ap, ◌∙◌}
-use Prim.Native.Nat.{ℕ, ◌-◌, ◌≤◌}
-use native.Mathlib.Omega.{arith}
+use mathlib.Core.Path.{◌≡◌}
+use Prim.Native.Nat.{◌-◌, ◌≤◌}
 use lib.ListN.{length}
-use borrow.Author.Rules.{rules}
-use Rattle.answers.specs.Entries.{Catchment, catchment}
+use Rattle.answers.specs.Entries.{catchment}
 use Rattle.report.specs.Desk.{first_number, numbers_from}
-use Rattle.report.proofs.Refusals.{refuses_at, passes_at, none_left}
 use Rattle.report.proofs.first_refusal.Given as goal
 
 abbrev pub invariant-loop-place : goal.invariant-loop-place

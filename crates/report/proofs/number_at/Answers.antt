@@ -1,6 +1,5 @@
 -- `report::number_at` meets its contract.
 -- Assumes nothing.
-use borrow.Author.Rules.{rules}
 use Rattle.report.proofs.number_at.Goals as goal
 
 pub returns : goal.returns

@@ -1,6 +1,5 @@
 -- `report::put_outlet_at` meets its contract.
 -- Assumes nothing.
-use borrow.Author.Rules.{rules}
 use Rattle.lines.proofs.Appending.{appends_as}
 use Rattle.report.proofs.Outlets.{outlet_is}
 use Rattle.report.proofs.put_outlet_at.Goals as goal

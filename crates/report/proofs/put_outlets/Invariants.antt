@@ -1,15 +1,11 @@
 -- `report::put_outlets` meets its contract: the lines of the outlets before a place are put.
 -- Assumes nothing.
-use mathlib.Core.Path.{◌≡◌, refl, sym, ap, ◌∙◌}
-use Prim.Native.Nat.{ℕ, ◌-◌, ◌≤◌}
-use native.Mathlib.Omega.{arith}
+use mathlib.Core.Path.{◌≡◌}
+use Prim.Native.Nat.{◌-◌, ◌≤◌}
 use lib.ListN.{length}
-use borrow.Author.Rules.{rules}
-use Rattle.answers.specs.Entries.{Catchment, catchment}
+use Rattle.answers.specs.Entries.{catchment}
 use Rattle.lines.specs.Appending.{Appends}
-use Rattle.lines.proofs.Appending.{appends_none, appends_as}
 use Rattle.report.specs.Desk.{outlets_lines}
-use Rattle.report.proofs.Outlets.{next_outlet, no_outlets}
 use Rattle.report.proofs.put_outlets.Given as goal
 
 abbrev pub invariant-loop-text : goal.invariant-loop-text

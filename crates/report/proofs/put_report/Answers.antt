@@ -1,11 +1,8 @@
 -- `report::put_report` meets its contract.
 -- Assumes nothing.
 use mathlib.Core.Path.{ap}
-use mathlib.Core.List.{List}
-use Prim.Native.Nat.{ℕ}
 use native.Mathlib.Omega.{arith}
 use lib.ListN.{length, length-take}
-use borrow.Author.Rules.{rules}
 use Rattle.lines.proofs.Appending.{appends_as, whole}
 use Rattle.report.proofs.Whole.{file_refused, some_cols, file_read}
 use Rattle.report.proofs.put_report.Goals as goal
@@ -15,11 +12,10 @@ returns-then-sheet-ne0 c =
     whole (appends_as (file_refused ((c.args.file.now)) c.read-sheet.ensures c.if-sheet-ne0.true) c.put_refused.ensures)
 
 pub report_sheet-requires : goal.report_sheet-requires
-report_sheet-requires c =
-    (
-      some_cols ((c.args.file.now)) c.read-sheet.ensures c.if-sheet-ne0.false,
-      omega (arith, simp length-take at (ap length c.first_of.ensures), c.read-sheet.auto.outlets),
-    )
+report_sheet-requires c = (
+  some_cols ((c.args.file.now)) c.read-sheet.ensures c.if-sheet-ne0.false,
+  omega (arith, simp length-take at (ap length c.first_of.ensures), c.read-sheet.auto.outlets),
+)
 
 pub returns : goal.returns
 returns c =

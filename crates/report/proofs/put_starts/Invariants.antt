@@ -1,16 +1,10 @@
 -- `report::put_starts` meets its contract: the lines of as many starts as were turned to are put.
 -- Assumes nothing.
-use mathlib.Core.Path.{◌≡◌, refl, sym, ap, ◌∙◌}
-use mathlib.Core.List.{List}
-use Prim.Native.Nat.{ℕ, ◌-◌, ◌≤◌}
-use native.Mathlib.Omega.{arith}
+use mathlib.Core.Path.{◌≡◌}
+use Prim.Native.Nat.{◌-◌, ◌≤◌}
 use lib.ListN.{length, take}
-use lib.Seq.{take_all}
-use borrow.Author.Rules.{rules}
 use Rattle.lines.specs.Appending.{Appends}
-use Rattle.lines.proofs.Appending.{appends_none, appends_both, appends_as}
 use Rattle.report.specs.Desk.{path_lines}
-use Rattle.report.proofs.Starts.{one_more, no_starts}
 use Rattle.report.proofs.put_starts.Given as goal
 
 abbrev pub invariant-loop-k : goal.invariant-loop-k

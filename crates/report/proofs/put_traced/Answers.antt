@@ -1,6 +1,5 @@
 -- `report::put_traced` meets its contract.
 -- Assumes nothing.
-use borrow.Author.Rules.{rules}
 use Rattle.answers.specs.Tracings.{lent}
 use Rattle.lines.proofs.Appending.{appends_none, appends_both, appends_as}
 use Rattle.report.proofs.Outlets.{found_lines, no_place_lines, refused_lines}

@@ -1,7 +1,6 @@
 -- `report::report` meets its contract.
 -- Assumes nothing.
 use native.Mathlib.Omega.{arith}
-use borrow.Author.Rules.{rules}
 use Rattle.lines.proofs.Appending.{holds_whole}
 use Rattle.report.proofs.Fits.{desk_fits}
 use Rattle.report.proofs.report.Goals as goal

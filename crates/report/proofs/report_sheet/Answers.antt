@@ -1,8 +1,7 @@
 -- `report::report_sheet` meets its contract.
 -- Assumes nothing.
-use borrow.Author.Rules.{rules}
 use Rattle.lines.proofs.Appending.{appends_as}
-use Rattle.spelling.specs.Content.{Content, content}
+use Rattle.spelling.specs.Content.{content}
 use Rattle.report.proofs.Whole.{ring_refuses, tracing_refuses, all_put}
 use Rattle.report.proofs.report_sheet.Goals as goal
 

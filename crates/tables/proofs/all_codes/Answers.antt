@@ -1,12 +1,10 @@
 -- `tables::all_codes` meets its contract. The loop's invariant: `worst` is 0 if all before `at` are codes, else 1.
 -- Assumes nothing.
 use mathlib.Core.Path.{◌≡◌, refl}
-use Prim.Native.Nat.{◌-◌, ◌≤◌}
 use native.Mathlib.Omega.{arith}
 use borrow.Author.Rules.{rules}
 use lib.ListN.{get_or}
-use Rattle.lists.specs.Lists.{member, all_below}
-use Rattle.tables.specs.Faults.{fault_of}
+use Rattle.lists.specs.Lists.{member}
 use Rattle.tables.proofs.Faults.{worse, no_worse, faultless}
 use Rattle.tables.proofs.all_codes.Goals as goal
 

@@ -1,7 +1,6 @@
 -- `tables::all_ours` meets its contract: our table's codes are handed on.
 -- Assumes nothing.
 use mathlib.Core.Path.{◌∙◌}
-use borrow.Author.Rules.{rules}
 use Rattle.ground.specs.Tables.{table1}
 use Rattle.tables.proofs.Faults.{all_in}
 use Rattle.tables.proofs.all_ours.Goals as goal

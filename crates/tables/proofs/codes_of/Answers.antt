@@ -1,7 +1,6 @@
 -- `tables::codes_of` meets its contract, arm by arm.
 -- Assumes nothing.
 use mathlib.Core.Path.{◌∙◌}
-use borrow.Author.Rules.{rules}
 use borrow.Author.Tests.{ne_eqb}
 use Rattle.tables.proofs.codes_of.Goals as goal
 

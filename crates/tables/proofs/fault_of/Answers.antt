@@ -1,11 +1,10 @@
 -- `tables::fault_of` meets its contract. The loop's invariant: `fault` is 0 if the byte is among the first k codes, else 1.
 -- Assumes nothing.
-use mathlib.Core.Path.{◌≡◌, refl, ap, ◌∙◌}
+use mathlib.Core.Path.{refl, ap, ◌∙◌}
 use mathlib.Core.List.{List}
-use Prim.Native.Nat.{ℕ, ◌-◌, ◌≤◌}
+use Prim.Native.Nat.{ℕ}
 use native.Mathlib.Omega.{arith}
 use borrow.Author.Rules.{rules}
-use lib.ListN.{take}
 use lib.Seq.{take_all}
 use Rattle.lists.specs.Lists.{member}
 use Rattle.tables.specs.Faults.{fault_of}

@@ -1,7 +1,6 @@
 -- `tracing::search_at` meets its contract.
 -- Assumes nothing.
 use native.Mathlib.Omega.{arith}
-use borrow.Author.Rules.{rules}
 use Rattle.tracing.proofs.Searching.{at_outlet, cells_there, searched_within, counted, starts_are}
 use Rattle.tracing.proofs.search_at.Goals as goal
 

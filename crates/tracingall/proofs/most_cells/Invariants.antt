@@ -1,16 +1,11 @@
 -- `tracingall::most_cells` meets its contract. The invariant: the most so far, or that of the outlets that are left, is
 -- the most of all.
 -- Assumes nothing.
-use mathlib.Core.Path.{◌≡◌, ap}
-use mathlib.Core.Logic.{inl, inr}
-use mathlib.Core.List.{List, map}
-use Prim.Native.Nat.{ℕ, ◌-◌, ◌≤◌, max}
-use native.Mathlib.Numerals.{add-one}
-use native.Mathlib.Omega.{arith}
-use borrow.Author.Rules.{rules}
-use lib.ListN.{length, get_or, drop, drop_of_length-le}
+use mathlib.Core.Path.{◌≡◌}
+use mathlib.Core.List.{map}
+use Prim.Native.Nat.{◌-◌, ◌≤◌, max}
+use lib.ListN.{length, get_or, drop}
 use Rattle.lists.specs.Lists.{greatest_of}
-use Rattle.lists.proofs.Sums.{greatest_left}
 use Rattle.tracingall.proofs.most_cells.Given as goal
 
 abbrev pub invariant-loop-j : goal.invariant-loop-j

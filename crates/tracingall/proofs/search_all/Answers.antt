@@ -1,7 +1,6 @@
 -- `tracingall::search_all` meets its contract.
 -- Assumes nothing.
 use native.Mathlib.Omega.{arith}
-use borrow.Author.Rules.{rules}
 use Rattle.lists.proofs.Kept.{kept_then}
 use Rattle.ground.specs.Grid.{grid_of}
 use Rattle.passes.proofs.Counting.{kept_traceable}
@@ -23,11 +22,13 @@ returns-then-starts-index_of c =
 pub list_all-requires : goal.list_all-requires
 list_all-requires c =
     let a = c.args in
-    let g = grid_of a.rows a.cols a.codes.now in record { searchable = record {
+    let g = grid_of a.rows a.cols a.codes.now in record {
+      searchable = record {
         ready = c.requires.searchable.ready;
         met = c.requires.searchable.met;
         list = kept_traceable c.requires.searchable.list c.count_all-s.ensures.kept;
-      }; outlets_in_bounds = (
+      };
+      outlets_in_bounds = (
         omega (
           arith,
           c.if-starts-index_of.false,
@@ -36,7 +37,8 @@ list_all-requires c =
         ),
         c.count_all-s.ensures.few_paths,
         c.requires.end_value.1,
-      ) }
+      );
+    }
 
 pub clear-requires-2 : goal.clear-requires-2
 clear-requires-2 c =

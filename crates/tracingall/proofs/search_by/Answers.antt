@@ -1,7 +1,6 @@
 -- `tracingall::search_by` meets its contract.
 -- Assumes nothing.
 use native.Mathlib.Omega.{arith}
-use borrow.Author.Rules.{rules}
 use Rattle.noting.proofs.Readying.{few, restored}
 use Rattle.tracingall.proofs.Noted.{all_places, all_searchable, searched_by}
 use Rattle.tracingall.proofs.search_by.Goals as goal

@@ -1,6 +1,5 @@
 -- `upstream::inflow` meets its contract, whether the cell is known as an inner one or not.
 -- Assumes nothing.
-use borrow.Author.Rules.{rules}
 use Rattle.upstream.proofs.inflow.Goals as goal
 
 pub inner_inflow-requires : goal.inner_inflow-requires

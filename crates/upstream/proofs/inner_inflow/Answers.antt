@@ -1,7 +1,6 @@
 -- `upstream::inner_inflow` meets its contract: the neighbour is on the grid, and its code tells.
 -- Assumes nothing.
 use native.Mathlib.Omega.{arith}
-use borrow.Author.Rules.{rules}
 use Rattle.upstream.proofs.Inner.{Reached, inner_reached, inner_away, inner_in}
 use Rattle.upstream.proofs.inner_inflow.Goals as goal
 

@@ -4,7 +4,6 @@ use mathlib.Core.Path.{sym, ◌∙◌}
 use Prim.Native.Nat.{◌+◌, ◌*◌, ◌<◌}
 use native.Mathlib.Omega.{arith}
 use lib.Arith.{digits_lt}
-use borrow.Author.Rules.{rules}
 use Rattle.moves.proofs.Spots.{size}
 use Rattle.upstream.proofs.Turning.{turns_off, turns_outlet, turns_in}
 use Rattle.upstream.proofs.tributary.Goals as goal

@@ -1,10 +1,10 @@
 -- `inflows::Inflows::sum` meets its contract. The loop's invariant: the total is the sum of the values before i, each
 -- of which is below 2 ^ 32. Assumes nothing.
-use mathlib.Core.Path.{◌≡◌, refl, ap, ◌∙◌}
-use Prim.Native.Nat.{◌-◌, ◌*◌, ◌<◌, ◌≤◌, ◌^◌}
+use mathlib.Core.Path.{refl, ap, ◌∙◌}
+use Prim.Native.Nat.{◌<◌}
 use native.Mathlib.Omega.{arith}
 use borrow.Author.Rules.{rules}
-use lib.ListN.{length, take}
+use lib.ListN.{length}
 use lib.Seq.{take_all}
 use Rattle.lists.specs.Lists.{sum_of}
 use Rattle.inflows.proofs.InflowRecord.{sum_take}

@@ -1,13 +1,9 @@
 -- `inflows::Inflows::sum` meets its contract. The loop's invariant: the total is the sum of the values before i, each
 -- of which is below 2 ^ 32. Assumes nothing.
-use mathlib.Core.Path.{◌≡◌, refl, ap, ◌∙◌}
-use Prim.Native.Nat.{◌-◌, ◌*◌, ◌<◌, ◌≤◌, ◌^◌}
-use native.Mathlib.Omega.{arith}
-use borrow.Author.Rules.{rules}
+use mathlib.Core.Path.{◌≡◌}
+use Prim.Native.Nat.{◌-◌, ◌*◌, ◌≤◌, ◌^◌}
 use lib.ListN.{length, take}
-use lib.Seq.{take_all}
 use Rattle.lists.specs.Lists.{sum_of}
-use Rattle.inflows.proofs.InflowRecord.{sum_take}
 use Rattle.inflows.proofs.Inflows.sum.Given as goal
 
 abbrev pub invariant-loop-i : goal.invariant-loop-i
