@@ -1,5 +1,6 @@
 // All outlets of a list traced in one call: the answer, and the part of the list that shows one outlet's starts.
 #![tactic(auto)]
+
 ghost use Rattle.std.specs.Prelude.{◌≡◌};
 ghost use Rattle.alloutlets.specs.Part.{part_at, ShowsStarts};
 

@@ -11,7 +11,7 @@ use Rattle.ground.specs.Grid.{Grid, grid_of, cell_count}
 use Rattle.search.specs.Tracing.{numbers_each, first_tracing}
 use Rattle.answers.specs.declared.Answer.TheVariants.{Found, NoPlace, Refused}
 use Rattle.answers.specs.declared.Traced.{Traced}
-use Rattle.answers.specs.Entries.{Catchment, catchment, accumulate_number, accumulate_leaves, check_number}
+use Rattle.answers.specs.Entries.{Catchment, accumulate_number, accumulate_leaves, check_number}
 use Rattle.answers.specs.Entries.{subaccumulate_number, subaccumulate_leaves}
 use Rattle.answers.specs.Answers.{answered, traced_by}
 use Rattle.answers.specs.Tracings.{Call, lent, chosen_cells, chosen_tracing}

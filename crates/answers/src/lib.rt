@@ -1,5 +1,6 @@
 // The answer of a tracing, and the same in numbers.
 #![tactic(auto)]
+
 ghost use Rattle.std.specs.Prelude.{◌≡◌};
 ghost use Rattle.answers.specs.Answers.{in_numbers};
 

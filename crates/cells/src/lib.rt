@@ -1,6 +1,7 @@
 // A cell by its row and column: the next one, the one that a number names, divided or counted off, and a table of all
 // cells of a grid.
 #![tactic(auto)]
+
 ghost use Rattle.std.specs.Prelude.{◌*◌, ◌+◌, ◌≤◌, ◌<◌};
 ghost use Rattle.cells.specs.Numbers.{RowAndColumn, TableFits, CellTable};
 

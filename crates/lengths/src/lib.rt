@@ -1,5 +1,6 @@
 // Lengths of walks, a + b√2 cell sides, compared exactly by their counts of steps.
 #![tactic(auto)]
+
 ghost use Rattle.std.specs.Prelude.{◌≡◌, ◌-◌, ◌*◌, ◌≤◌, ◌<◌, ◌^◌, ltb};
 ghost use Rattle.lengths.specs.Rule.{compared, counts, plus_step, sign_of};
 ghost use Rattle.lengths.specs.Lengths.{square_cells, farthest};

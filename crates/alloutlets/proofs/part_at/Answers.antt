@@ -1,10 +1,9 @@
 -- `alloutlets::part_at` meets its contract. The invariant: the part would begin after the first k counts.
 -- Assumes nothing.
 use mathlib.Core.Path.{◌≡◌, sym, ap, ◌∙◌}
-use Prim.Native.Nat.{ℕ, ◌+◌, ◌-◌, ◌≤◌}
+use Prim.Native.Nat.{ℕ, ◌+◌, ◌≤◌}
 use native.Mathlib.Numerals.{add-one}
 use native.Mathlib.Omega.{arith}
-use borrow.Author.Rules.{rules}
 use lib.ListN.{get_or, take}
 use Rattle.lists.specs.Lists.{sum_of}
 use Rattle.lists.proofs.Sums.{sum_next}
@@ -67,28 +66,45 @@ overflow_sub-n-2 c = omega (arith, c.loop-k.invariant.2)
 pub returns-then-n-begin-2 : goal.returns-then-n-begin-2
 returns-then-n-begin-2 c =
     let a = c.args in
-    shows_past a.counts.now a.choice a.n (omega (arith, c.if-n-begin-2.true, c.index_of-count.ensures.0, (let held : let a = c.args in c.loop-k.begin ≡ starts_before a.counts.now a.choice = let l = c.loop-k in
+    shows_past a.counts.now a.choice a.n (omega (
+      arith,
+      c.if-n-begin-2.true,
+      c.index_of-count.ensures.0,
+      (let held : let a = c.args in c.loop-k.begin ≡ starts_before a.counts.now a.choice = let l = c.loop-k in
           let a = c.args in
           let m : l.k ≡ a.choice = omega (arith, l.invariant.0, c.loop-k-test.false) in
-          l.invariant.1 ∙ ap (λ (k : ℕ). sum_of (take k a.counts.now)) m in held)))
+          l.invariant.1 ∙ ap (λ (k : ℕ). sum_of (take k a.counts.now)) m in held),
+    ))
 
 pub returns-then-count-eq0 : goal.returns-then-count-eq0
 returns-then-count-eq0 c =
     let a = c.args in
-    shows_none a.counts.now a.choice a.n (omega (arith, c.if-counts-choice.false)) ((let held : let a = c.args in starts_before a.counts.now a.choice + get_or a.counts.now a.choice 0 ≤ a.n = omega (arith, c.if-n-begin-2.false, c.index_of-count.ensures.0, (let held : let a = c.args in c.loop-k.begin ≡ starts_before a.counts.now a.choice = let l = c.loop-k in
-                let a = c.args in
-                let m : l.k ≡ a.choice = omega (arith, l.invariant.0, c.loop-k-test.false) in
-                l.invariant.1 ∙ ap (λ (k : ℕ). sum_of (take k a.counts.now)) m in held), c.loop-k.invariant.2) in held))
+    shows_none a.counts.now a.choice a.n (omega (arith, c.if-counts-choice.false)) ((let held : let a = c.args in starts_before a.counts.now a.choice + get_or a.counts.now a.choice 0 ≤ a.n = omega (
+      arith,
+      c.if-n-begin-2.false,
+      c.index_of-count.ensures.0,
+      (let held : let a = c.args in c.loop-k.begin ≡ starts_before a.counts.now a.choice = let l = c.loop-k in
+          let a = c.args in
+          let m : l.k ≡ a.choice = omega (arith, l.invariant.0, c.loop-k-test.false) in
+          l.invariant.1 ∙ ap (λ (k : ℕ). sum_of (take k a.counts.now)) m in held),
+      c.loop-k.invariant.2,
+    ) in held))
     (sym c.index_of-count.ensures.0 ∙ c.if-count-eq0.true)
 
 pub returns : goal.returns
 returns c =
     let a = c.args in
-    shows_own a.counts.now a.choice a.n (omega (arith, c.if-counts-choice.false)) ((let held : let a = c.args in starts_before a.counts.now a.choice + get_or a.counts.now a.choice 0 ≤ a.n = omega (arith, c.if-n-begin-2.false, c.index_of-count.ensures.0, (let held : let a = c.args in c.loop-k.begin ≡ starts_before a.counts.now a.choice = let l = c.loop-k in
-                let a = c.args in
-                let m : l.k ≡ a.choice = omega (arith, l.invariant.0, c.loop-k-test.false) in
-                l.invariant.1 ∙ ap (λ (k : ℕ). sum_of (take k a.counts.now)) m in held), c.loop-k.invariant.2) in held))
-    ((let held : let a = c.args in c.loop-k.begin ≡ starts_before a.counts.now a.choice = let l = c.loop-k in
+    shows_own a.counts.now a.choice a.n (omega (arith, c.if-counts-choice.false)) ((let held : let a = c.args in starts_before a.counts.now a.choice + get_or a.counts.now a.choice 0 ≤ a.n = omega (
+      arith,
+      c.if-n-begin-2.false,
+      c.index_of-count.ensures.0,
+      (let held : let a = c.args in c.loop-k.begin ≡ starts_before a.counts.now a.choice = let l = c.loop-k in
           let a = c.args in
           let m : l.k ≡ a.choice = omega (arith, l.invariant.0, c.loop-k-test.false) in
-          l.invariant.1 ∙ ap (λ (k : ℕ). sum_of (take k a.counts.now)) m in held)) c.index_of-count.ensures.0 c.if-count-eq0.false
+          l.invariant.1 ∙ ap (λ (k : ℕ). sum_of (take k a.counts.now)) m in held),
+      c.loop-k.invariant.2,
+    ) in held))
+    ((let held : let a = c.args in c.loop-k.begin ≡ starts_before a.counts.now a.choice = let l = c.loop-k in
+    let a = c.args in
+    let m : l.k ≡ a.choice = omega (arith, l.invariant.0, c.loop-k-test.false) in
+    l.invariant.1 ∙ ap (λ (k : ℕ). sum_of (take k a.counts.now)) m in held)) c.index_of-count.ensures.0 c.if-count-eq0.false

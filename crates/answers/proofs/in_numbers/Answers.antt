@@ -1,7 +1,6 @@
 -- `answers::in_numbers` meets its contract.
 -- Assumes nothing.
 use mathlib.Core.Path.{sym, ap}
-use borrow.Author.Rules.{rules}
 use Rattle.answers.specs.Answers.{in_numbers}
 use Rattle.answers.proofs.in_numbers.Goals as goal
 

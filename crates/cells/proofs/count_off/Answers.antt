@@ -1,7 +1,5 @@
 -- `cells::count_off` meets its contract. The invariant: the rows counted off and what is left make up the number.
 -- Assumes nothing.
-use mathlib.Core.Path.{◌≡◌}
-use Prim.Native.Nat.{◌+◌, ◌*◌, ◌≤◌}
 use native.Mathlib.Omega.{arith}
 use borrow.Author.Rules.{rules}
 use Rattle.cells.proofs.count_off.Goals as goal

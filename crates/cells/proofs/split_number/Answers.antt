@@ -1,6 +1,5 @@
 -- `cells::split_number` meets its contract.
 -- Assumes nothing.
-use borrow.Author.Rules.{rules}
 use Rattle.cells.proofs.Numbers.{divided}
 use Rattle.cells.proofs.split_number.Goals as goal
 

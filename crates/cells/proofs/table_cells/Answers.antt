@@ -1,12 +1,10 @@
 -- `cells::table_cells` meets its contract. The invariant: the cell has number k, those before it stand in the table.
 -- Assumes nothing.
-use mathlib.Core.Path.{◌≡◌, refl, ◌∙◌}
-use Prim.Native.Nat.{◌-◌, ◌*◌, ◌≤◌, ◌<◌}
+use mathlib.Core.Path.{refl, ◌∙◌}
+use Prim.Native.Nat.{◌<◌}
 use native.Mathlib.Nat.{mul-le-mul}
 use native.Mathlib.Omega.{arith}
-use lib.ListN.{length, length-set}
-use borrow.Author.Rules.{rules}
-use Rattle.cells.specs.Numbers.{RowAndColumn, CellTable}
+use lib.ListN.{length-set}
 use Rattle.cells.proofs.Numbers.{row_inside}
 use Rattle.cells.proofs.Table.{table_more, next_number}
 use Rattle.cells.proofs.table_cells.Goals as goal

@@ -1,11 +1,10 @@
 -- `lists::copy` meets its contract. The loop's invariant: storing the rest stores all.
 -- Assumes nothing.
-use mathlib.Core.Path.{◌≡◌, refl, sym, ◌∙◌}
-use Prim.Native.Nat.{◌+◌, ◌-◌, ◌≤◌}
+use mathlib.Core.Path.{refl, sym, ◌∙◌}
+use Prim.Native.Nat.{◌+◌}
 use native.Mathlib.Nat.{add-zero}
 use native.Mathlib.Omega.{arith}
-use lib.ListN.{length, drop, length-set}
-use lib.Seq.{sets}
+use lib.ListN.{length-set}
 use Rattle.lists.proofs.Overlaid.{copy_next, copied}
 use borrow.Author.Rules.{rules}
 use Rattle.lists.proofs.copy.Goals as goal

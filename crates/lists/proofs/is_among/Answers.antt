@@ -1,10 +1,6 @@
 -- `lists::is_among` meets its contract. The loop's invariant: what is left from k on decides.
 -- Assumes nothing.
-use mathlib.Core.Path.{◌≡◌, refl, sym, ◌∙◌}
-use Prim.Native.Nat.{◌-◌}
-use borrow.Author.Rules.{rules}
-use lib.ListN.{length, drop}
-use Rattle.lists.specs.Lists.{member}
+use mathlib.Core.Path.{refl, sym, ◌∙◌}
 use Rattle.lists.proofs.Members.{member_ends, member_found, member_goes_on}
 use Rattle.lists.proofs.is_among.Goals as goal
 

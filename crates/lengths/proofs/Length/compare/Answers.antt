@@ -4,7 +4,6 @@ use mathlib.Core.Path.{sym, ap₂, ◌∙◌}
 use mathlib.Core.Bool.{true, false}
 use Prim.Native.Nat.{◌-◌}
 use native.Mathlib.Omega.{arith}
-use borrow.Author.Rules.{rules}
 use Rattle.lengths.specs.Rule.{sign_of}
 use Rattle.lengths.proofs.Cases.{by_straight, by_diagonal, both_less, both_more, less_more, more_less}
 use Rattle.lengths.proofs.Length.compare.Goals as goal

@@ -1,6 +1,5 @@
 -- `lengths::Length::farthest` meets its contract: n diagonal steps at once.
 -- Assumes nothing.
-use borrow.Author.Rules.{rules}
 use Rattle.lengths.proofs.Laws.{farthest_is}
 use Rattle.lengths.proofs.Length.farthest.Goals as goal
 

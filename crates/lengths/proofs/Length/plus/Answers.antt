@@ -1,6 +1,5 @@
 -- `lengths::Length::plus` meets its contract.
 -- Assumes nothing.
-use borrow.Author.Rules.{rules}
 use Rattle.lengths.proofs.Length.plus.Goals as goal
 
 pub returns-in-Straight : goal.returns-in-Straight
