@@ -1,7 +1,7 @@
 //! Links the library for C, `libhost.a`.
 //!
 //! `JINXBANYAN_LIB_DIR` has the path of its directory, absolute or from this package on;
-//! `../target/staticlib`, where `rt staticlib host` writes it, if not given.
+//! `../target/staticlib`, where `../prove staticlib host` puts it, if not given.
 
 use std::env;
 use std::path::Path;
@@ -18,7 +18,7 @@ fn main() {
             println!("cargo::rustc-link-lib=static=host");
         }
         _ => panic!(
-            "there is no libhost.a in {dir}: `rt staticlib host` makes it, in target/staticlib, \
+            "there is no libhost.a in {dir}: `prove staticlib host` makes it, in target/staticlib, \
              and JINXBANYAN_LIB_DIR may name another directory"
         ),
     }

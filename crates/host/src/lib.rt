@@ -2,6 +2,7 @@
 // jb_starts_of returns the refusal number. Places for results are written on every call. Slices of one call must not
 // overlap.
 #![tactic(auto)]
+
 ghost use Rattle.std.specs.Prelude.{◌≡◌};
 ghost use Rattle.ground.specs.Grid.{grid_of};
 ghost use Rattle.answers.specs.Entries.{catchment, Accumulates, check_number, Subaccumulates};
