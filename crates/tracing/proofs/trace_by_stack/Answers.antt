@@ -27,7 +27,7 @@ returns-then-work-index_of c =
     stack_20 ((let a = c.args in
     call_of a.edition a.rows a.cols a.codes.now a.accumulation.now a.outlets.now a.place
     a.dropping)) ((lent c.args.subaccumulation.now c.args.starts.now)) c.args.work.now ((sym c.is_edition.ensures ∙ c.if-not-is_edition.false)) c.prepare-ready.ensures
-    c.if-number-ne0.false (omega (arith, c.if-work-index_of.true, c.index_of.ensures.0)) c.refused-then-work-index_of.ensures
+    c.if-number-ne0.false (omega (arith, c.index_of.ensures.0)) c.refused-then-work-index_of.ensures
 
 pub by_stack-requires : goal.by_stack-requires
 by_stack-requires c =
@@ -38,7 +38,7 @@ by_stack-requires c =
       chosen = prepared_chosen {c = ((let a = c.args in
           call_of a.edition a.rows a.cols a.codes.now a.accumulation.now a.outlets.now a.place
           a.dropping)).catchment} refl r c.if-number-ne0.false;
-      cells_value = (r.counted c.if-number-ne0.false, omega (arith, c.if-work-index_of.false, c.index_of.ensures.0));
+      cells_value = (r.counted c.if-number-ne0.false, omega (arith, c.index_of.ensures.0));
     }
 
 pub returns : goal.returns
@@ -47,4 +47,4 @@ returns c =
     (stack_whole ((let a = c.args in
     call_of a.edition a.rows a.cols a.codes.now a.accumulation.now a.outlets.now a.place
     a.dropping)) ((lent c.args.subaccumulation.now c.args.starts.now)) c.args.work.now ((sym c.is_edition.ensures ∙ c.if-not-is_edition.false)) c.prepare-ready.ensures
-    c.if-number-ne0.false (omega (arith, c.if-work-index_of.false, c.index_of.ensures.0)) c.by_stack.ensures.lists_and_clears)
+    c.if-number-ne0.false (omega (arith, c.index_of.ensures.0)) c.by_stack.ensures.lists_and_clears)
