@@ -13,20 +13,20 @@ pub fill-requires : goal.fill-requires
 fill-requires c =
     let a = c.args in
     fillable a.rows a.cols a.codes.now a.accumulation.now
-        (sym c.grid_number-number.ensures ∙ c.if-number-ne0.false)
+    (sym c.grid_number-number.ensures ∙ c.if-number-ne0.false)
 
 pub returns-then-not-fill : goal.returns-then-not-fill
 returns-then-not-fill c =
     let a = c.args in
     let f = c.fill in
     rw c.if-not-fill.true at
-        (filled a.rows a.cols a.codes.now a.accumulation.now
-            (sym c.grid_number-number.ensures ∙ c.if-number-ne0.false) f.result f.ensures)
+    (filled a.rows a.cols a.codes.now a.accumulation.now
+    (sym c.grid_number-number.ensures ∙ c.if-number-ne0.false) f.result f.ensures)
 
 pub returns : goal.returns
 returns c =
     let a = c.args in
     let f = c.fill in
     rw c.if-not-fill.false at
-        (filled a.rows a.cols a.codes.now a.accumulation.now
-            (sym c.grid_number-number.ensures ∙ c.if-number-ne0.false) f.result f.ensures)
+    (filled a.rows a.cols a.codes.now a.accumulation.now
+    (sym c.grid_number-number.ensures ∙ c.if-number-ne0.false) f.result f.ensures)

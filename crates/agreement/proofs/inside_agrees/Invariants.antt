@@ -9,7 +9,7 @@ use Rattle.agreement.proofs.inside_agrees.Given as goal
 abbrev pub invariant-loop-col : goal.invariant-loop-col
 invariant-loop-col l =
     (1 ≤ l.col) × (l.col ≤ l.cols)
-        × AgreesAlong (grid_of l.rows l.cols l.codes) l.accumulation l.row 1 l.col l.agreed
+    × AgreesAlong (grid_of l.rows l.cols l.codes) l.accumulation l.row 1 l.col l.agreed
 
 abbrev pub decreases-loop-col : goal.decreases-loop-col
 decreases-loop-col l = l.cols - l.col

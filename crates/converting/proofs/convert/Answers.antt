@@ -26,7 +26,7 @@ returns-then-number-ne0 c =
     let a = c.args in
     let call = conversion a.from a.to a.rows a.cols a.codes.now in
     let both = both_tables call (sym c.is_table.ensures ∙ c.if-not-is_table.false)
-        (sym c.is_table-2.ensures ∙ c.if-not-is_table-2.false) in
+    (sym c.is_table-2.ensures ∙ c.if-not-is_table-2.false) in
     let number = c.number_in-number.ensures (table_of call.from) c.codes_of-source.ensures in
     refused call a.converted.now both number (λ z. c.if-number-ne0.true (rw z))
 
@@ -35,7 +35,7 @@ overflow_mul-rows c =
     let a = c.args in
     let call = conversion a.from a.to a.rows a.cols a.codes.now in
     let both = both_tables call (sym c.is_table.ensures ∙ c.if-not-is_table.false)
-        (sym c.is_table-2.ensures ∙ c.if-not-is_table-2.false) in
+    (sym c.is_table-2.ensures ∙ c.if-not-is_table-2.false) in
     let number = c.number_in-number.ensures (table_of call.from) c.codes_of-source.ensures in
     omega (arith, fits call a.converted.now both number c.if-number-ne0.false)
 
@@ -44,17 +44,17 @@ rewrite-requires c =
     let a = c.args in
     let call = conversion a.from a.to a.rows a.cols a.codes.now in
     let both = both_tables call (sym c.is_table.ensures ∙ c.if-not-is_table.false)
-        (sym c.is_table-2.ensures ∙ c.if-not-is_table-2.false) in
+    (sym c.is_table-2.ensures ∙ c.if-not-is_table-2.false) in
     let number = c.number_in-number.ensures (table_of call.from) c.codes_of-source.ensures in
     readable call a.converted.now both number c.if-number-ne0.false refl c.codes_of-source.ensures
-        c.codes_of-target.ensures
+    c.codes_of-target.ensures
 
 pub returns : goal.returns
 returns c =
     let a = c.args in
     let call = conversion a.from a.to a.rows a.cols a.codes.now in
     let both = both_tables call (sym c.is_table.ensures ∙ c.if-not-is_table.false)
-        (sym c.is_table-2.ensures ∙ c.if-not-is_table-2.false) in
+    (sym c.is_table-2.ensures ∙ c.if-not-is_table-2.false) in
     let number = c.number_in-number.ensures (table_of call.from) c.codes_of-source.ensures in
     told call a.converted.now both number c.if-number-ne0.false c.codes_of-source.ensures
-        c.codes_of-target.ensures c.rewrite.ensures
+    c.codes_of-target.ensures c.rewrite.ensures

@@ -41,7 +41,7 @@ trace_inflows-is_dropped-requires t c =
     let a = c.args in
     let r = c.requires in
     let h = testable r.ready (met_in a.edition a.subaccumulation.now) a.dropping r.inflows_ready
-        c.next_turn-t.ensures c.if-t-ge8.false c.plus-longer.ensures in
+    c.next_turn-t.ensures c.if-t-ge8.false c.plus-longer.ensures in
     (omega (arith, h), omega (arith, h), omega (arith, h))
 
 pub trace_inflows-drop_cells-q-requires : goal.trace_inflows-drop_cells-q-requires
