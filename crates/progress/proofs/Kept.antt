@@ -183,19 +183,8 @@ visited_past old end cell met len p e = record {
 
 -- ---- the drop test
 
+-- what an engine holds, and the starts that it holds, say the same
 module _ (limit : Length) (p : Progress) where
-  -- before a length is met, nothing is below it
-  pub none_met : p.paths ≡ 0 → is_below limit p ≡ false
-  unfolding is_below
-  none_met e = rw e
-
-  -- else the limit is compared with the greatest length
-  pub limit_says : (p.paths ≡ 0 → ⊥) → (o : Order) → compared limit p.greatest ≡ o
-      → is_below limit p ≡ says_shorter o
-  unfolding is_below
-  limit_says h o k = rw (ne_eqb p.paths 0 h) (shorter_says limit p.greatest o k)
-
-  -- the starts that an engine holds say the same
   pub below_starts : (work : List ℕ) (end : ℕ) → is_below limit p ≡ below_greatest squares (starts_of p work end) limit
   unfolding is_below
   below_starts work end = go (kept work end p.paths) (kept_length work end p.paths)
