@@ -5,7 +5,8 @@ ghost use Rattle.std.specs.Prelude.{◌≡◌, ◌&&◌, ◌+◌, ◌-◌, ◌�
 ghost use Rattle.lengths.specs.Lengths.{square_cells, farthest};
 ghost use Rattle.progress.specs.Starts.{progress_of, begun, is_below, Room, Met, Visited};
 
-use lengths::{Length, Order};
+use lengths::Length;
+use std::cmp::Ordering;
 
 // The greatest length met and how many starts have it, the cells visited and the cells dropped. The starts themselves
 // stand in a slice, before an end: the first next to it, the others further down.
@@ -63,9 +64,9 @@ fn meet(work: &mut [u32], end: usize, cell: u32, len: Length, p: Progress) -> Pr
         return restart(work, end, cell, len, p);
     }
     match len.compare(p.greatest) {
-        Order::Shorter => p,
-        Order::Longer => restart(work, end, cell, len, p),
-        Order::Same => join(work, end, cell, p),
+        Ordering::Less => p,
+        Ordering::Greater => restart(work, end, cell, len, p),
+        Ordering::Equal => join(work, end, cell, p),
     }
 }
 
@@ -109,5 +110,5 @@ pub fn is_dropped(dropping: bool, len: Length, n: u32, p: Progress) -> bool
     requires { (len.diagonal ≤ 2 ^ 24) × (0 < n) × (n ≤ 2 ^ 24) }
     ensures { result ≡ (dropping && is_below (farthest square_cells len (n - 1)) p) }
 {
-    dropping && p.paths != 0 && matches!(len.farthest(n - 1).compare(p.greatest), Order::Shorter)
+    dropping && p.paths != 0 && len.farthest(n - 1).compare(p.greatest).is_lt()
 }
