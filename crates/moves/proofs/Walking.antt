@@ -37,9 +37,9 @@ module _ {rows cols : ℕ} {codes : List ℕ} {w : Walk} (on : OnGrid rows cols 
   land = grid_of rows cols codes
 
   abbrev here : ℕ
-  here = w.row * cols + w.col
+  here = w.cell.row * cols + w.cell.col
 
-  module _ {s : Option Cell} (p : FlowsTo (grid_of rows cols codes) (w.row * cols + w.col) s) where
+  module _ {s : Option Cell} (p : FlowsTo (grid_of rows cols codes) (w.cell.row * cols + w.cell.col) s) where
     pub walk_ends : s ≡ None → WalkedOn (grid_of rows cols codes) w w
     walk_ends e = record {
       is_state = sym (state_ends land (state_of cols w) (p.ends_here e));
@@ -63,7 +63,7 @@ module _ {rows cols : ℕ} {codes : List ℕ} {w : Walk} (on : OnGrid rows cols 
           (sym (ap (dir_of table1) code_is) ∙ s_flows.flows ∙ ap some s_flows.is_step)
 
       pub walk_goes : {longer : Length} → longer ≡ plus_step w.length (step_by (lead_of (get_or codes here 0)))
-          → WalkedOn (grid_of rows cols codes) w (record { row = x.row; col = x.col; length = longer })
+          → WalkedOn (grid_of rows cols codes) w (record { cell = x; length = longer })
       walk_goes f = record {
         is_state = ap (λ (k : Length). record { cell = x.row * cols + x.col; len = k })
             (f ∙ ap (plus_step w.length) step_is)

@@ -38,7 +38,7 @@ pub record FlowsFrom (rows cols : ℕ) (codes : List ℕ) (row col k : ℕ) (r :
 
 -- 01: the state of a walk, its cell and its straight and diagonal steps
 abbrev pub state_of : ℕ → Walk → At Length
-state_of cols w = record { cell = w.row * cols + w.col; len = w.length }
+state_of cols w = record { cell = w.cell.row * cols + w.cell.col; len = w.length }
 
 -- one step of it; at the walk's end the state stays
 unfoldable pub stepped_on : Grid → At Length → At Length
@@ -46,12 +46,12 @@ stepped_on g s = elim (stride squares (next g) s) [ none ↦ s | some t ↦ t ]
 
 -- a walk on the grid; its counts are below the largest number of cells, so that one more fits
 pub record OnGrid (rows cols : ℕ) (codes : List ℕ) (w : Walk) : Type 0 where
-  pub on : OnCell rows cols codes w.row w.col
+  pub on : OnCell rows cols codes w.cell.row w.cell.col
   pub straight_small : w.length.straight < 2 ^ 24
   pub diagonal_small : w.length.diagonal < 2 ^ 24
 
 -- the walk after one step, still on the grid
 pub record WalkedOn (g : Grid) (w r : Walk) : Type 0 where
   pub is_state : state_of g.cols r ≡ stepped_on g (state_of g.cols w)
-  pub row_in : r.row < g.rows
-  pub col_in : r.col < g.cols
+  pub row_in : r.cell.row < g.rows
+  pub col_in : r.cell.col < g.cols

@@ -2,15 +2,17 @@
 // in.
 #![tactic(auto)]
 
-ghost use Rattle.std.specs.Prelude.{◌≡◌, ◌*◌, ◌+◌, ◌<◌, get_or};
-ghost use Rattle.ground.specs.Grid.{grid_of};
-ghost use Rattle.moves.specs.Lent.{OnCell};
+ghost use Rattle.std.specs.Prelude.{◌≡◌, ◌<◌};
+ghost use Rattle.moves.specs.Grids.{On, number_in, ground_of, code_at, FlowsIn, OnGrid, WalkedOn};
 ghost use Rattle.moves.specs.Moves.{by_move, lead_of, LeadsBy, step_by, InReach, Spotted};
 ghost use Rattle.moves.specs.Moves.{dir_at, near_by, neighbour_of};
-ghost use Rattle.moves.specs.Walks.{FlowsTo, FlowsFrom, OnGrid, WalkedOn};
+ghost use Rattle.moves.specs.Walks.{FlowsTo};
 
 use cells::Cell;
+pub use grid::Grid;
 use lengths::{Length, Step};
+
+mod grid;
 
 // A step: the change of row and of column, each plus one so that no number is negative, and whether it is straight or
 // diagonal.
@@ -58,70 +60,53 @@ pub fn step_of(code: u8) -> Step
 
 // The cell that a change of row and of column, each plus one, leads to. Row and column are tested apart, so that no
 // step wraps around a border.
-pub fn spot_at(
-    rows: usize,
-    cols: usize,
-    row: usize,
-    col: usize,
-    down: usize,
-    right: usize,
-) -> Option<Cell>
-    requires { InReach rows cols row col down right }
-    ensures { Spotted rows cols row col down right result }
+pub fn spot_at(rows: usize, cols: usize, cell: Cell, down: usize, right: usize) -> Option<Cell>
+    requires { InReach rows cols cell.row cell.col down right }
+    ensures { Spotted rows cols cell.row cell.col down right result }
 {
-    let r = (row + down).checked_sub(1)?;
-    let c = (col + right).checked_sub(1)?;
-    if rows <= r || cols <= c {
+    let row = (cell.row + down).checked_sub(1)?;
+    let col = (cell.col + right).checked_sub(1)?;
+    if rows <= row || cols <= col {
         return None;
     }
-    Some(Cell { row: r, col: c })
+    Some(Cell { row, col })
 }
 
 // The cell that a cell flows to by the step of its code: none off the grid, and none where that cell is null.
-fn flows_by(
-    rows: usize,
-    cols: usize,
-    codes: &[u8],
-    row: usize,
-    col: usize,
-    by: Move,
-) -> Option<Cell>
-    requires on_cell { OnCell rows cols codes.now row col }
-    requires leads_by { LeadsBy (get_or codes.now (row * cols + col) 0) by }
-    ensures { FlowsTo (grid_of rows cols codes.now) (row * cols + col) result }
+fn flows_by(grid: Grid, cell: Cell, by: Move) -> Option<Cell>
+    requires on_cell { On grid cell }
+    requires leads_by { LeadsBy (code_at grid cell) by }
+    ensures { FlowsTo (ground_of grid.entry) (number_in grid.entry cell) result }
 {
-    let cell = spot_at(rows, cols, row, col, by.row, by.col)?;
-    let to = cell.row * cols + cell.col;
-    if codes[to] == 0 {
+    let to = spot_at(grid.rows, grid.cols, cell, by.row, by.col)?;
+    if grid.codes[to.row * grid.cols + to.col] == 0 {
         return None;
     }
-    Some(cell)
+    Some(to)
 }
 
 // A walk: the cell where it is, and the length that it has come.
 #[derive(Clone, Copy)]
 pub struct Walk {
-    pub row: usize,
-    pub col: usize,
+    pub cell: Cell,
     pub length: Length,
 }
 
 impl Walk {
     // One step on. At its end the walk stays as it is.
-    pub fn step(self, rows: usize, cols: usize, codes: &[u8]) -> Walk
-        requires { OnGrid rows cols codes.now self }
-        ensures { WalkedOn (grid_of rows cols codes.now) self result }
+    pub fn step(self, grid: Grid) -> Walk
+        requires { OnGrid grid self }
+        ensures { WalkedOn grid.entry self result }
     {
-        let at = self.row * cols + self.col;
-        let Some(m) = lead_of(codes[at]) else {
+        let at = self.cell.row * grid.cols + self.cell.col;
+        let Some(m) = lead_of(grid.codes[at]) else {
             return self;
         };
-        let Some(cell) = flows_by(rows, cols, codes, self.row, self.col, m) else {
+        let Some(cell) = flows_by(grid, self.cell, m) else {
             return self;
         };
         Walk {
-            row: cell.row,
-            col: cell.col,
+            cell,
             length: self.length.plus(m.step),
         }
     }
@@ -158,22 +143,14 @@ pub fn neighbour_at(k: usize) -> Neighbour
 }
 
 // Neighbour k of a cell, if it is on the grid and flows in.
-pub fn inflow_from(
-    rows: usize,
-    cols: usize,
-    codes: &[u8],
-    row: usize,
-    col: usize,
-    k: usize,
-) -> Option<Cell>
-    requires { OnCell rows cols codes.now row col }
-    ensures { FlowsFrom rows cols codes.now row col k result }
+pub fn inflow_from(grid: Grid, cell: Cell, k: usize) -> Option<Cell>
+    requires { On grid cell }
+    ensures { FlowsIn grid.entry cell k result }
 {
     let n = neighbour_at(k);
-    let cell = spot_at(rows, cols, row, col, n.row, n.col)?;
-    let at = cell.row * cols + cell.col;
-    if codes[at] != n.back {
+    let beside = spot_at(grid.rows, grid.cols, cell, n.row, n.col)?;
+    if grid.codes[beside.row * grid.cols + beside.col] != n.back {
         return None;
     }
-    Some(cell)
+    Some(beside)
 }
