@@ -56,14 +56,14 @@ module _ {rows cols row col at : ℕ} {codes offsets : List ℕ} (n : Numbered r
   }
 
   goes : {x : Cell} {to : ℕ} → to ≡ x.row * cols + x.col → FlowsTo land here (Some x)
-      → FlowsOn land at (Some (record { row = x.row; col = x.col; at = to }))
+      → FlowsOn land at (Some (record { cell = x; at = to }))
   goes {x} {to} q t = record {
     ends_here = λ e. absurd (none-some _ (sym e));
     goes_on = λ y e. let s : to ≡ y.at = cc in subst (Flows land at) s (rw (n.is_at, q) (t.goes_on x refl));
     is_at = λ y e.
-        let r : x.row ≡ y.row = cc in let c : x.col ≡ y.col = cc in let s : to ≡ y.at = cc in sym s ∙ q ∙ rw (r, c);
-    row_in = λ y e. let s : x.row ≡ y.row = cc in omega (arith, t.row_in x refl);
-    col_in = λ y e. let s : x.col ≡ y.col = cc in omega (arith, t.col_in x refl);
+        let r : x.row ≡ y.cell.row = cc in let c : x.col ≡ y.cell.col = cc in let s : to ≡ y.at = cc in sym s ∙ q ∙ rw (r, c);
+    row_in = λ y e. let s : x.row ≡ y.cell.row = cc in omega (arith, t.row_in x refl);
+    col_in = λ y e. let s : x.col ≡ y.cell.col = cc in omega (arith, t.col_in x refl);
   }
 
   module _ {l : Option Move} (told : l ≡ lead_of (get_or codes at 0)) where
@@ -124,8 +124,7 @@ module _ {rows cols row col at : ℕ} {codes offsets : List ℕ} (n : Numbered r
 
           pub flows_there : (get_or codes (at + get_or offsets place 0 - (cols + 1)) 0 ≡ 0 → ⊥)
               → FlowsOn (grid_of rows cols codes) at (Some (record {
-                row = x.row;
-                col = x.col;
+                cell = x;
                 at = at + get_or offsets place 0 - (cols + 1);
               }))
           flows_there z = goes to_is

@@ -18,6 +18,6 @@ pub record Numbered (rows cols : ℕ) (codes offsets : List ℕ) (row col at : �
 pub record FlowsOn (g : Grid) (x : ℕ) (r : Option NumberedCell) : Type 0 where
   pub ends_here : r ≡ None → next g x ≡ none
   pub goes_on : (cell : NumberedCell) → r ≡ Some cell → Flows g x cell.at
-  pub is_at : (cell : NumberedCell) → r ≡ Some cell → cell.at ≡ cell.row * g.cols + cell.col
-  pub row_in : (cell : NumberedCell) → r ≡ Some cell → cell.row < g.rows
-  pub col_in : (cell : NumberedCell) → r ≡ Some cell → cell.col < g.cols
+  pub is_at : (cell : NumberedCell) → r ≡ Some cell → cell.at ≡ cell.cell.row * g.cols + cell.cell.col
+  pub row_in : (cell : NumberedCell) → r ≡ Some cell → cell.cell.row < g.rows
+  pub col_in : (cell : NumberedCell) → r ≡ Some cell → cell.cell.col < g.cols

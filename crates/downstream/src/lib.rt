@@ -3,17 +3,18 @@
 
 ghost use Rattle.std.specs.Prelude.{◌≡◌, ◌+◌, ◌≤◌};
 ghost use Rattle.ground.specs.Tables.{table1, dir_of};
-ghost use Rattle.ground.specs.Grid.{grid_of};
+ghost use Rattle.moves.specs.Grids.{ground_of};
 ghost use Rattle.downstream.specs.Offsets.{place_by, offsets_of};
-ghost use Rattle.downstream.specs.Flowing.{Numbered, FlowsOn};
+ghost use Rattle.downstream.specs.Flowing.{FlowsOn};
+ghost use Rattle.downstream.specs.Grids.{Numbered};
 
-use moves::{lead_of, spot_at};
+use cells::Cell;
+use moves::{Grid, lead_of, spot_at};
 
-// A cell by its row, column and number.
+// A cell with its number.
 #[derive(Clone, Copy)]
 pub struct NumberedCell {
-    pub row: usize,
-    pub col: usize,
+    pub cell: Cell,
     pub at: usize,
 }
 
@@ -44,28 +45,16 @@ pub fn offsets(cols: usize) -> [usize; 8]
 }
 
 // The cell that a cell flows to. A walk ends where the code leads nowhere, off the grid or to a null cell.
-pub fn downstream_of(
-    rows: usize,
-    cols: usize,
-    codes: &[u8],
-    offsets: &[usize; 8],
-    row: usize,
-    col: usize,
-    at: usize,
-) -> Option<NumberedCell>
-    requires { Numbered rows cols codes.now offsets.now row col at }
-    ensures { FlowsOn (grid_of rows cols codes.now) at result }
+pub fn downstream_of(grid: Grid, offsets: &[usize; 8], here: NumberedCell) -> Option<NumberedCell>
+    requires { Numbered grid offsets.now here }
+    ensures { FlowsOn (ground_of grid.entry) here.at result }
 {
-    let m = lead_of(codes[at])?;
-    let cell = spot_at(rows, cols, row, col, m.row, m.col)?;
-    let place = place_of(codes[at]);
-    let to = at + offsets[place] - (cols + 1);
-    if codes[to] == 0 {
+    let code = grid.codes[here.at];
+    let m = lead_of(code)?;
+    let cell = spot_at(grid.rows, grid.cols, here.cell, m.row, m.col)?;
+    let to = here.at + offsets[place_of(code)] - (grid.cols + 1);
+    if grid.codes[to] == 0 {
         return None;
     }
-    Some(NumberedCell {
-        row: cell.row,
-        col: cell.col,
-        at: to,
-    })
+    Some(NumberedCell { cell, at: to })
 }

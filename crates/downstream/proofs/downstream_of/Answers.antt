@@ -17,19 +17,19 @@ returns-in_err-cell c = rw c.from_residual-in_err-cell.ensures
 pub overflow_sub-to : goal.overflow_sub-to
 overflow_sub-to c = omega (
   arith,
-  number_is c.requires c.lead_of.ensures c.in_ok-m.was c.spot_at.ensures c.in_ok-cell.was c.place_of-place.ensures,
+  number_is c.requires c.lead_of.ensures c.in_ok-m.was c.spot_at.ensures c.in_ok-cell.was c.place_of.ensures,
 )
 
-pub bounds-codes-to : goal.bounds-codes-to
-bounds-codes-to c =
-    to_inside c.requires c.lead_of.ensures c.in_ok-m.was c.spot_at.ensures c.in_ok-cell.was c.place_of-place.ensures
+pub bounds-grid-to : goal.bounds-grid-to
+bounds-grid-to c =
+    to_inside c.requires c.lead_of.ensures c.in_ok-m.was c.spot_at.ensures c.in_ok-cell.was c.place_of.ensures
 
-pub returns-then-codes-to-eq0 : goal.returns-then-codes-to-eq0
-returns-then-codes-to-eq0 c =
-    ends_null c.requires c.lead_of.ensures c.in_ok-m.was c.spot_at.ensures c.in_ok-cell.was c.place_of-place.ensures
-    c.if-codes-to-eq0.true
+pub returns-then-grid-to-eq0 : goal.returns-then-grid-to-eq0
+returns-then-grid-to-eq0 c =
+    ends_null c.requires c.lead_of.ensures c.in_ok-m.was c.spot_at.ensures c.in_ok-cell.was c.place_of.ensures
+    c.if-grid-to-eq0.true
 
 pub returns : goal.returns
 returns c =
-    flows_there c.requires c.lead_of.ensures c.in_ok-m.was c.spot_at.ensures c.in_ok-cell.was c.place_of-place.ensures
-    c.if-codes-to-eq0.false
+    flows_there c.requires c.lead_of.ensures c.in_ok-m.was c.spot_at.ensures c.in_ok-cell.was c.place_of.ensures
+    c.if-grid-to-eq0.false
