@@ -4,6 +4,8 @@
 -- Assumes nothing.
 use Rattle.std.specs.Prelude.{◌≡◌, Bool, true, false, cond, Result, MatchResult, List, ℕ, ◌+◌, ◌*◌, ◌/◌, ◌%◌, ◌≤◌, ◌<◌, ◌^◌, length, get_or, eqb, ltb}
 use Rattle.search.specs.Editions.{is_edition}
+use Rattle.answers.specs.declared.Refusal.{Refusal}
+use Rattle.answers.specs.Refusals.{refusal_number}
 use Rattle.notes.specs.declared.Edition.{Edition}
 use Rattle.notes.specs.declared.Edition.TheVariants.{First, Second}
 use Rattle.lists.specs.Lists.{member}
@@ -15,10 +17,10 @@ abbrev pub edition_number : Edition → ℕ
 edition_number First = 1
 edition_number Second = 2
 
--- the edition of a number, and an error where there is none
-abbrev pub OfNumber : ℕ → Result Edition Unit → Type 0
+-- the edition of a number, and where there is none the refusal by 25
+abbrev pub OfNumber : ℕ → Result Edition Refusal → Type 0
 OfNumber number r = MatchResult r (λ edition. (is_edition number ≡ true) × (edition_number edition ≡ number))
-    (λ e. is_edition number ≡ false)
+    (λ refusal. (is_edition number ≡ false) × (refusal_number refusal ≡ 25))
 
 -- the subaccumulation that a word holds
 abbrev pub cells_held : ℕ → ℕ

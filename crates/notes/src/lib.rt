@@ -5,6 +5,8 @@
 ghost use Rattle.std.specs.Prelude.{◌≡◌};
 ghost use Rattle.notes.specs.Notes.{cells_held, edition_number, met_by, OfNumber};
 
+use answers::Refusal;
+
 // An edition of the standard.
 #[derive(Clone, Copy, PartialEq, Eq)]
 pub enum Edition {
@@ -12,17 +14,17 @@ pub enum Edition {
     Second,
 }
 
-// By its number.
+// By its number; another number is refused.
 impl TryFrom<u32> for Edition {
-    type Error = ();
+    type Error = Refusal;
 
     ghost try_from_gives = { OfNumber };
 
-    fn try_from(number: u32) -> Result<Self, ()> {
+    fn try_from(number: u32) -> Result<Self, Refusal> {
         match number {
             1 => Ok(Edition::First),
             2 => Ok(Edition::Second),
-            _ => Err(()),
+            _ => Err(Refusal::Edition),
         }
     }
 }
