@@ -1,12 +1,15 @@
 // The inflow record of a cell: what its neighbours have that flow in.
 #![tactic(auto)]
 
-ghost use Rattle.std.specs.Prelude.{◌≡◌, ◌*◌, ◌+◌};
+ghost use Rattle.std.specs.Prelude.{◌≡◌};
 ghost use Rattle.lists.specs.Lists.{sum_of};
-ghost use Rattle.ground.specs.Grid.{grid_of, inflow_record};
-ghost use Rattle.inflows.specs.Values.{HasCell, InnerOn, InnerCell, LiesBeside, value_at};
+ghost use Rattle.moves.specs.Grids.{ground_of, number_in};
+ghost use Rattle.ground.specs.Grid.{inflow_record};
+ghost use Rattle.inflows.specs.Values.{value_at};
+ghost use Rattle.inflows.specs.Grids.{HasCell, InnerOn, InnerCell, LiesBeside};
 
-use moves::{inflow_from, neighbour_at};
+use cells::Cell;
+use moves::{Grid, inflow_from, neighbour_at};
 use std::array;
 
 // The accumulations of the neighbours that flow in, in neighbour order; 0 where one does not.
@@ -16,21 +19,12 @@ pub struct Inflows {
 }
 
 // What flows in from neighbour k.
-fn inflow_at(
-    rows: usize,
-    cols: usize,
-    codes: &[u8],
-    accumulation: &[u32],
-    row: usize,
-    col: usize,
-    k: usize,
-) -> u32
-    requires { HasCell rows cols codes.now accumulation.now row col }
-    ensures { result
-        ≡ value_at (grid_of rows cols codes.now) accumulation.now (row * cols + col) k }
+fn inflow_at(grid: Grid, accumulation: &[u32], cell: Cell, k: usize) -> u32
+    requires { HasCell grid accumulation.now cell }
+    ensures { result ≡ value_at (ground_of grid.entry) accumulation.now (number_in grid.entry cell) k }
 {
-    match inflow_from(rows, cols, codes, row, col, k) {
-        Some(cell) => accumulation[cell.row * cols + cell.col],
+    match inflow_from(grid, cell, k) {
+        Some(from) => accumulation[from.row * grid.cols + from.col],
         None => 0,
     }
 }
@@ -43,78 +37,46 @@ pub struct Beside {
 }
 
 // Neighbour k of an inner cell. No border is tested.
-pub fn inner_neighbour(
-    rows: usize,
-    cols: usize,
-    codes: &[u8],
-    row: usize,
-    col: usize,
-    k: usize,
-) -> Beside
-    requires { InnerOn rows cols codes.now row col }
-    ensures { LiesBeside rows cols codes.now row col k result }
+pub fn inner_neighbour(grid: Grid, cell: Cell, k: usize) -> Beside
+    requires { InnerOn grid cell }
+    ensures { LiesBeside grid.entry cell k result }
 {
     let n = neighbour_at(k);
-    let at = (row + n.row - 1) * cols + (col + n.col - 1);
+    let at = (cell.row + n.row - 1) * grid.cols + (cell.col + n.col - 1);
     Beside {
         at,
-        flows: codes[at] == n.back,
+        flows: grid.codes[at] == n.back,
     }
 }
 
 // What flows in from neighbour k of an inner cell. The number is loaded before it is asked whether the neighbour flows
 // in, so that no branch is left.
-fn inner_inflow_at(
-    rows: usize,
-    cols: usize,
-    codes: &[u8],
-    accumulation: &[u32],
-    row: usize,
-    col: usize,
-    k: usize,
-) -> u32
-    requires { InnerCell rows cols codes.now accumulation.now row col }
-    ensures { result
-        ≡ value_at (grid_of rows cols codes.now) accumulation.now (row * cols + col) k }
+fn inner_inflow_at(grid: Grid, accumulation: &[u32], cell: Cell, k: usize) -> u32
+    requires { InnerCell grid accumulation.now cell }
+    ensures { result ≡ value_at (ground_of grid.entry) accumulation.now (number_in grid.entry cell) k }
 {
-    let n = inner_neighbour(rows, cols, codes, row, col, k);
+    let n = inner_neighbour(grid, cell, k);
     let value = accumulation[n.at];
     if n.flows { value } else { 0 }
 }
 
 // The inflow record of an inner cell. It has one caller, so that it is inlined there.
-pub fn inner_inflows(
-    rows: usize,
-    cols: usize,
-    codes: &[u8],
-    accumulation: &[u32],
-    row: usize,
-    col: usize,
-) -> Inflows
-    requires { InnerCell rows cols codes.now accumulation.now row col }
-    ensures { result.values
-        ≡ inflow_record (grid_of rows cols codes.now) accumulation.now (row * cols + col) }
+pub fn inner_inflows(grid: Grid, accumulation: &[u32], cell: Cell) -> Inflows
+    requires { InnerCell grid accumulation.now cell }
+    ensures { result.values ≡ inflow_record (ground_of grid.entry) accumulation.now (number_in grid.entry cell) }
 {
     Inflows {
-        values: array::from_fn(|k| inner_inflow_at(rows, cols, codes, accumulation, row, col, k)),
+        values: array::from_fn(|k| inner_inflow_at(grid, accumulation, cell, k)),
     }
 }
 
 // The inflow record of any cell.
-pub fn inflows_of(
-    rows: usize,
-    cols: usize,
-    codes: &[u8],
-    accumulation: &[u32],
-    row: usize,
-    col: usize,
-) -> Inflows
-    requires { HasCell rows cols codes.now accumulation.now row col }
-    ensures { result.values
-        ≡ inflow_record (grid_of rows cols codes.now) accumulation.now (row * cols + col) }
+pub fn inflows_of(grid: Grid, accumulation: &[u32], cell: Cell) -> Inflows
+    requires { HasCell grid accumulation.now cell }
+    ensures { result.values ≡ inflow_record (ground_of grid.entry) accumulation.now (number_in grid.entry cell) }
 {
     Inflows {
-        values: array::from_fn(|k| inflow_at(rows, cols, codes, accumulation, row, col, k)),
+        values: array::from_fn(|k| inflow_at(grid, accumulation, cell, k)),
     }
 }
 

@@ -4,8 +4,8 @@ use native.Mathlib.Omega.{arith}
 use Rattle.inflows.proofs.InflowRecord.{inner_inside, beside}
 use Rattle.inflows.proofs.inner_neighbour.Goals as goal
 
-pub bounds-codes-at : goal.bounds-codes-at
-bounds-codes-at c = omega (
+pub bounds-grid-at : goal.bounds-grid-at
+bounds-grid-at c = omega (
   arith,
   inner_inside c.requires.on c.requires.inner c.args.k c.neighbour_at-n.ensures,
   c.requires.on.grid.has_codes,
