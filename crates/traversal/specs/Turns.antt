@@ -28,7 +28,7 @@ turns_to g marks x k = is_found (unmarked_from g marks x (dir_at k))
 
 -- a position on a lent grid with its offsets
 abbrev pub OnPosition : ℕ → ℕ → List ℕ → List ℕ → Position → Type 0
-OnPosition rows cols codes offsets p = Numbered rows cols codes offsets p.row p.col p.at
+OnPosition rows cols codes offsets p = Numbered rows cols codes offsets p.cell.row p.cell.col p.at
 
 -- and marks for each cell
 pub record Turning (rows cols : ℕ) (codes offsets marks : List ℕ) (p : Position) : Type 0 where
@@ -39,7 +39,7 @@ pub record Turning (rows cols : ℕ) (codes offsets marks : List ℕ) (p : Posit
 -- at a cell of which all eight neighbours are on the grid
 pub record InnerTurning (rows cols : ℕ) (codes offsets marks : List ℕ) (p : Position) : Type 0 where
   pub turning : Turning rows cols codes offsets marks p
-  pub inner : Inner rows cols p.row p.col
+  pub inner : Inner rows cols p.cell.row p.cell.col
 
 -- the neighbours from the k-th on to before another have none to turn to
 pub record Passed (g : Grid) (marks : List ℕ) (x k r : ℕ) : Type 0 where

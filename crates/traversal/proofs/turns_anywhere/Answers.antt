@@ -5,8 +5,8 @@ use lib.Arith.{digits_lt}
 use Rattle.traversal.proofs.Turning.{spot_away, spot_here}
 use Rattle.traversal.proofs.turns_anywhere.Goals as goal
 
-pub bounds-marks-cell : goal.bounds-marks-cell
-bounds-marks-cell c =
+pub bounds-marks-from : goal.bounds-marks-from
+bounds-marks-from c =
     let f = c.inflow_from.ensures in
     omega (arith, digits_lt (f.row_in _ c.in-Some.is) (f.col_in _ c.in-Some.is), c.requires.has_marks)
 

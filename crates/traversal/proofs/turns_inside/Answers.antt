@@ -7,8 +7,8 @@ use Rattle.traversal.proofs.Moving.{cells_small}
 use Rattle.traversal.proofs.Turning.{inner_inside, inner_away, inner_here}
 use Rattle.traversal.proofs.turns_inside.Goals as goal
 
-pub bounds-codes-y : goal.bounds-codes-y
-bounds-codes-y c =
+pub bounds-grid-y : goal.bounds-grid-y
+bounds-grid-y c =
     let s = c.requires.inner in
     omega (arith, inner_inside s.turning.on s.inner c.requires.k_bound, s.turning.on.on.grid.has_codes)
 
@@ -22,13 +22,13 @@ bounds-marks-y c =
     let s = c.requires.inner in
     omega (arith, inner_inside s.turning.on s.inner c.requires.k_bound, s.turning.has_marks)
 
-pub returns-then-codes-y : goal.returns-then-codes-y
-returns-then-codes-y c =
+pub returns-then-grid-y : goal.returns-then-grid-y
+returns-then-grid-y c =
     let s = c.requires.inner in
-    inner_here s.turning.on s.inner c.requires.k_bound c.neighbour_at.ensures _ c.if-codes-y.true
+    inner_here s.turning.on s.inner c.requires.k_bound c.neighbour_at.ensures _ c.if-grid-y.true
 
-pub returns-else-codes-y : goal.returns-else-codes-y
-returns-else-codes-y c =
+pub returns-else-grid-y : goal.returns-else-grid-y
+returns-else-grid-y c =
     let s = c.requires.inner in
-    ne_eqb _ _ c.if-codes-y.false
-    ∙ inner_away s.turning.on s.inner c.requires.k_bound c.neighbour_at.ensures _ c.if-codes-y.false
+    ne_eqb _ _ c.if-grid-y.false
+    ∙ inner_away s.turning.on s.inner c.requires.k_bound c.neighbour_at.ensures _ c.if-grid-y.false
