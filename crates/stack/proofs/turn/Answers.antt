@@ -13,8 +13,8 @@ pending_at-w-requires c =
     let s = c.requires.stack_stands in
     omega (arith, pending_room c.requires.ready s.0 s.1, s.0.within, s.1)
 
-pub bounds-subaccumulation-row : goal.bounds-subaccumulation-row
-bounds-subaccumulation-row c =
+pub bounds-subaccumulation-w : goal.bounds-subaccumulation-w
+bounds-subaccumulation-w c =
     let s = c.requires.stack_stands in
     omega (arith, indexed c.requires.ready (on_ground c.requires.ready s.0 s.1 c.pending_at-w.ensures))
 
