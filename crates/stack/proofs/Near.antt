@@ -1,17 +1,15 @@
 -- Outlets that are far by their numbers are no neighbours, so that none of them flows in.
 -- Assumes nothing.
-use mathlib.Core.Path.{◌≡◌, refl, sym, ap, ◌∙◌}
-use mathlib.Core.Bool.{Bool, true, false, true≢false, ◌||◌}
+use mathlib.Core.Path.{◌≡◌, refl, sym, ◌∙◌}
+use mathlib.Core.Bool.{Bool, true, false, true≢false}
 use mathlib.Core.List.{List, [], ◌∷◌}
 use mathlib.Core.Option.{Option, none, some}
 use Prim.Native.Nat.{ℕ, zero, suc, ◌+◌, ◌*◌, ◌≤◌, ◌<◌}
 use native.Mathlib.Nat.{mul-le-mul, suc-mul}
 use native.Mathlib.Numerals.{add-one}
 use native.Mathlib.Omega.{arith}
-use lib.ListN.{length, get_or, drop, drop_of_length-le}
-use lib.Seq.{drop-cons}
 use lib.Dec.{eqb, leb, ltb}
-use borrow.Author.Tests.{eqb-true, leb-false, le-leb, lt-leb}
+use borrow.Author.Tests.{eqb-true, leb-false}
 use Rattle.lists.specs.Lists.{member}
 use Rattle.ground.specs.Compass.{Dir, dirs, Shift, less, as_is, more, shifted, row_shift, col_shift}
 use Rattle.ground.specs.Grid.{Grid, grid_of, cell_at, neighbour}

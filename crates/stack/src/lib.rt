@@ -5,7 +5,7 @@ ghost use Rattle.std.specs.Prelude.{◌≡◌, true, [], ◌∷◌, map, ◌+◌
 ghost use Rattle.lists.specs.Lists.{sum_of};
 ghost use Rattle.search.specs.Tracing.{numbers_each};
 ghost use Rattle.moves.specs.Lent.{OnCell};
-ghost use Rattle.notes.specs.Notes.{cells_held};
+ghost use Rattle.notes.specs.Notes.{cells_held, edition_number};
 ghost use Rattle.upstream.specs.Ready.{Ready, OnGround, cells_at, met_in};
 ghost use Rattle.stack.specs.Pending.{Short, pending_at, pending_with, all_above, PutOn};
 ghost use Rattle.stack.specs.Near.{any_near, NoneFlowsIn};
@@ -13,8 +13,7 @@ ghost use Rattle.stack.specs.Draining.{Fits, CellEntered, StackStands, StackTurn
 
 use inflows::{Inflows, inflows_of};
 use lengths::Length;
-use moves::Spot;
-use notes::{cells_held, is_met};
+use notes::{Edition, cells_held, is_met};
 use progress::{Progress, begin, drop_cells, is_dropped, visit};
 use upstream::{is_inner, step_at, tributary};
 
@@ -87,11 +86,8 @@ fn put_inflows(
     let inner = is_inner(rows, cols, row, col);
     let mut at = top;
     for k in (0..8).rev() {
-        if let Spot::On { row: r, col: c } = tributary(
-            inner, rows, cols, codes, outlets, row, col, k,
-        ) {
-            let own = len.plus(step_at(k));
-            at = put(work, at, r, c, own);
+        if let Some(cell) = tributary(inner, rows, cols, codes, outlets, row, col, k) {
+            at = put(work, at, cell.row, cell.col, len.plus(step_at(k)));
         }
     }
     at
@@ -112,7 +108,9 @@ fn cells_above(inflows: Inflows) -> u64
 fn lies_near(outlets: &[u32], at: usize, reach: usize) -> bool
     ensures { result ≡ any_near at reach outlets.now }
 {
-    outlets.iter().any(|outlet| (*outlet as usize).abs_diff(at) <= reach)
+    outlets
+        .iter()
+        .any(|outlet| (*outlet as usize).abs_diff(at) <= reach)
 }
 
 // Is it known of a cell of n cells that no outlet flows in? Of a short list of outlets, if none is as near as a
@@ -174,7 +172,7 @@ fn enter_cell(
     codes: &[u8],
     outlets: &[u32],
     subaccumulation: &[u32],
-    edition: u32,
+    edition: Edition,
     row: usize,
     col: usize,
     len: Length,
@@ -187,7 +185,7 @@ fn enter_cell(
     requires on_ground { OnGround rows cols codes.now row col }
     requires fits { Fits (cells_at rows cols codes.now outlets.now row col) len end p top work.old }
     ensures { CellEntered rows cols codes.now outlets.now
-        (met_in edition subaccumulation.now) row col len end p top work.old result
+        (met_in (edition_number edition) subaccumulation.now) row col len end p top work.old result
         work.new }
 {
     let at = row * cols + col;
@@ -224,7 +222,7 @@ fn enter_outlet(
     codes: &[u8],
     outlets: &[u32],
     subaccumulation: &[u32],
-    edition: u32,
+    edition: Edition,
     row: usize,
     col: usize,
     len: Length,
@@ -237,7 +235,7 @@ fn enter_outlet(
     requires on_ground { OnGround rows cols codes.now row col }
     requires fits { Fits (cells_at rows cols codes.now outlets.now row col) len end p top work.old }
     ensures { CellEntered rows cols codes.now outlets.now
-        (met_in edition subaccumulation.now) row col len end p top work.old result
+        (met_in (edition_number edition) subaccumulation.now) row col len end p top work.old result
         work.new }
 {
     let at = row * cols + col;
@@ -257,7 +255,7 @@ fn turn(
     codes: &[u8],
     outlets: &[u32],
     subaccumulation: &[u32],
-    edition: u32,
+    edition: Edition,
     dropping: bool,
     end: usize,
     s: Stack,
@@ -266,7 +264,7 @@ fn turn(
     requires ready { Ready rows cols codes.now outlets.now subaccumulation.now }
     requires stack_stands { StackStands rows cols codes.now outlets.now end s work.old × (0 < s.top) }
     ensures { StackTurned rows cols codes.now outlets.now
-        (met_in edition subaccumulation.now) dropping end s work.old result work.new }
+        (met_in (edition_number edition) subaccumulation.now) dropping end s work.old result work.new }
 {
     let top = s.top - 1;
     let w = pending_at(work, top);
@@ -302,7 +300,7 @@ pub fn trace(
     codes: &[u8],
     outlets: &[u32],
     subaccumulation: &[u32],
-    edition: u32,
+    edition: Edition,
     dropping: bool,
     row: usize,
     col: usize,
@@ -312,7 +310,7 @@ pub fn trace(
     requires on_ground { OnGround rows cols codes.now row col }
     requires col_in_bounds { numbers_each * cells_at rows cols codes.now outlets.now row col ≤ length work.old }
     ensures { StackTraced rows cols codes.now outlets.now
-        (met_in edition subaccumulation.now) dropping row col work.old result work.new }
+        (met_in (edition_number edition) subaccumulation.now) dropping row col work.old result work.new }
 {
     let end = NUMBERS_EACH * cells_held(subaccumulation[row * cols + col]) as usize;
     let mut s = enter_outlet(

@@ -1,8 +1,7 @@
 -- `stack::cells_above` meets its contract. The loop's invariant: the total is what the words so far hold, each of them
 -- below 2 ^ 29. Assumes nothing.
 use mathlib.Core.Path.{◌≡◌}
-use mathlib.Core.List.{map, []}
-use Prim.Native.Nat.{ℕ}
+use mathlib.Core.List.{[]}
 use native.Mathlib.Omega.{arith}
 use native.Mathlib.Numerals.{add-one}
 use borrow.Author.Rules.{rules}

@@ -21,33 +21,35 @@ put-at-requires c =
     let a = c.args in
     let l = c.loop-k in
     let f = c.tributary.ensures in
-    let t = c.in-On in (
+    let cell = c.in-Some.cell in
+    let is = c.in-Some.is in (
       room_left (grid_of a.rows a.cols a.codes.now) a.outlets.now (a.row * a.cols + a.col) a.len
-          l.k (omega arith) (omega arith) l.invariant t.r t.c
-          (found_there f t.is) (length l.work) (omega (arith, c.requires.len_in_bounds.0)),
-      omega (arith, f.row_in t.r t.c t.is, c.requires.on_cell.grid.sides.rows_small),
-      omega (arith, f.col_in t.r t.c t.is, c.requires.on_cell.grid.sides.cols_small),
+          l.k (omega arith) (omega arith) l.invariant cell.row cell.col
+          (found_there f is) (length l.work) (omega (arith, c.requires.len_in_bounds.0)),
+      omega (arith, f.row_in cell is, c.requires.on_cell.grid.sides.rows_small),
+      omega (arith, f.col_in cell is, c.requires.on_cell.grid.sides.cols_small),
     )
 
-pub loop-k-preserved-in-On : goal.loop-k-preserved-in-On
-loop-k-preserved-in-On c =
+pub loop-k-preserved-in-Some : goal.loop-k-preserved-in-Some
+loop-k-preserved-in-Some c =
     let a = c.args in
     let l = c.loop-k in
     let f = c.tributary.ensures in
-    let t = c.in-On in
+    let cell = c.in-Some.cell in
+    let is = c.in-Some.is in
     joined (grid_of a.rows a.cols a.codes.now) a.outlets.now (a.row * a.cols + a.col) a.len
-        l.k (omega arith) (omega arith) l.invariant t.r t.c
-        (found_there f t.is) (f.col_in t.r t.c t.is)
-        (c.plus-own.ensures ∙ ap (plus_step a.len) c.step_at.ensures)
-        c.put-at.ensures
+    l.k (omega arith) (omega arith) l.invariant cell.row cell.col
+    (found_there f is) (f.col_in cell is)
+    (c.plus.ensures ∙ ap (plus_step a.len) c.step_at.ensures)
+    c.put-at.ensures
 
 pub loop-k-preserved : goal.loop-k-preserved
 loop-k-preserved c =
     let a = c.args in
     let l = c.loop-k in
     passed (grid_of a.rows a.cols a.codes.now) a.outlets.now (a.row * a.cols + a.col) a.len
-        l.k (omega arith) (omega arith) l.invariant
-        (nothing_there c.tributary.ensures c.in_default.is)
+    l.k (omega arith) (omega arith) l.invariant
+    (nothing_there c.tributary.ensures c.in_default.is)
 
 pub returns : goal.returns
 returns c =
