@@ -10,7 +10,7 @@ loop-row-init c = before_none _ _ _ (omega arith)
 
 pub returns : goal.returns
 returns c =
-    let e : c.loop-row.row ≡ c.args.rows = omega arith in
+    let e : c.loop-row.row ≡ c.args.grid.rows = omega arith in
     before_all _ _ _ (rw e) c.loop-row.invariant
 
 pub loop-row-preserved : goal.loop-row-preserved

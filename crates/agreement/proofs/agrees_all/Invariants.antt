@@ -6,4 +6,4 @@ use Rattle.agreement.proofs.Rows.{AgreesBefore}
 use Rattle.agreement.proofs.agrees_all.Given as goal
 
 abbrev pub invariant-loop-row : goal.invariant-loop-row
-invariant-loop-row l = AgreesBefore (grid_of l.rows l.cols l.codes) l.accumulation (l.row * l.cols)
+invariant-loop-row l = AgreesBefore (grid_of l.grid.rows l.grid.cols l.grid.codes.now) l.accumulation (l.row * l.grid.cols)

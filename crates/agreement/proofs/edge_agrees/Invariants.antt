@@ -6,4 +6,4 @@ use Rattle.agreement.specs.Equation.{AgreesAlong}
 use Rattle.agreement.proofs.edge_agrees.Given as goal
 
 abbrev pub invariant-loop-col : goal.invariant-loop-col
-invariant-loop-col l = AgreesAlong (grid_of l.rows l.cols l.codes) l.accumulation l.row 1 l.col true
+invariant-loop-col l = AgreesAlong (grid_of l.grid.rows l.grid.cols l.grid.codes.now) l.accumulation l.row 1 l.col true
