@@ -1,6 +1,6 @@
 -- A refusal that a check hands on keeps its number, whatever the caller would have asked next.
 -- Assumes nothing.
-use Rattle.std.proofs.Common.{◌≡◌, Result, ap, ◌∙◌, List, ◌++◌}
+use Rattle.std.proofs.Common.{◌≡◌, Result, sym, ap, ◌∙◌, List, ◌++◌}
 use Rattle.std.specs.Result.{IsErrAnd}
 use Rattle.std.proofs.lemmas.Result.{err_from_is_err_and}
 use Rattle.answers.specs.declared.Refusal.{Refusal}
@@ -18,3 +18,8 @@ pub refused : {A : Type 0} (refusal : Refusal) (r : Result A Refusal) (cs ds : L
     → IsErrAnd r (λ e. e ≡ refusal) → refusal_number refusal ≡ first_failed cs
     → number_told r ≡ first_failed (cs ++ ds)
 refused refusal r cs ds h e = told refusal r h ∙ handed_on cs ds e (has_number refusal)
+
+-- and it is none of 0
+pub not_0 : {A : Type 0} (refusal : Refusal) (r : Result A Refusal) → IsErrAnd r (λ e. e ≡ refusal)
+    → number_told r ≡ 0 → ⊥
+not_0 refusal r h z = has_number refusal (sym (told refusal r h) ∙ z)
