@@ -7,6 +7,7 @@ use mathlib.Core.List.{List, [], ◌∷◌, ◌++◌}
 use Prim.Native.Nat.{ℕ, ◌≤◌, ◌<◌}
 use native.Mathlib.Omega.{arith}
 use lib.ListN.{length}
+use Rattle.std.specs.Prelude.{Some, None}
 use lib.Dec.{eqb, leb}
 use borrow.Author.Tests.{eqb-true, eqb-false, ne_eqb, leb-true, le-leb, lt-leb}
 use Rattle.ground.specs.Compass.{squares}
@@ -77,14 +78,14 @@ module _ (q : Drawing) where
 
 -- where there is something to draw, the start lies in the subwatershed and the whole path is measured
 inside : (q : Drawing) {count : ℕ}
-    → count ≡ path_length q.catchment.grid q.catchment.outlets (outlet_of q) q.start → (count ≡ 0 → ⊥)
+    → Some count ≡ path_length q.catchment.grid q.catchment.outlets (outlet_of q) q.start
     → (is_inside q ≡ true) × (count ≡ length (drawn_path q))
 unfolding path_length
-inside q {count} is some = go (is_inside q) refl
+inside q {count} is = go (is_inside q) refl
   where
     go : (b : Bool) → is_inside q ≡ b → (is_inside q ≡ true) × (count ≡ length (drawn_path q))
-    go true e = (e, is ∙ rw e)
-    go false e = absurd (some (is ∙ rw e))
+    go true e = let same : Some count ≡ Some (length (drawn_path q)) = is ∙ rw e in (e, (cc))
+    go false e = let none : Some count ≡ None = is ∙ rw e in cc
 
 module _ (q : Drawing) (lent : List ℕ) where
   -- 22 and 23
@@ -110,35 +111,33 @@ module _ (q : Drawing) (lent : List ℕ) where
     by_last = number_is
         ∙ beyond_place q.catchment (length q.catchment.accumulation ∷ []) q.place last passes
 
+    -- REFUSED BY 22: there is nothing to draw
+    pub refused_22 : None ≡ path_length q.catchment.grid q.catchment.outlets (outlet_of q) q.start
+        → Judged q lent (answer_of 22 0)
+    unfolding path_length
+    refused_22 is = go (is_inside q) refl
+      where
+        go : (b : Bool) → is_inside q ≡ b → Judged q lent (answer_of 22 0)
+        go true e = let some : None ≡ Some (length (drawn_path q)) = is ∙ rw e in cc
+        go false e = refused 22 (λ r. absurd (omega (arith, r))) (by_last ∙ rw e)
+
     module _ {count : ℕ}
-        (is : count ≡ path_length q.catchment.grid q.catchment.outlets (outlet_of q) q.start) where
-      -- REFUSED BY 22: there is nothing to draw
-      pub refused_22 : count ≡ 0 → Judged q lent (answer_of 22 0)
-      unfolding path_length
-      refused_22 z = go (is_inside q) refl
-        where
-          go : (b : Bool) → is_inside q ≡ b → Judged q lent (answer_of 22 0)
-          go true e =
-              let long : count ≡ length (drawn_path q) = is ∙ rw e in
-              absurd (omega (arith, z, (inside_path q e).some_cell, long))
-          go false e = refused 22 (λ r. absurd (omega (arith, r))) (by_last ∙ rw e)
+        (is : Some count ≡ path_length q.catchment.grid q.catchment.outlets (outlet_of q) q.start) where
+      -- BY 23
+      pub refused_23 : length lent < count → Judged q lent (answer_of 23 0)
+      refused_23 h =
+          let i = inside q is in
+          refused 23 (λ r. absurd (omega (arith, r)))
+          (by_last ∙ rw (i.0, lt-leb (length (drawn_path q)) (length lent) (omega (arith, h, i.1))))
 
-      module _ (some : count ≡ 0 → ⊥) where
-        -- BY 23
-        pub refused_23 : length lent < count → Judged q lent (answer_of 23 0)
-        refused_23 h =
-            let i = inside q is some in
-            refused 23 (λ r. absurd (omega (arith, r)))
-            (by_last ∙ rw (i.0, lt-leb (length (drawn_path q)) (length lent) (omega (arith, h, i.1))))
-
-        -- OR ACCEPTED
-        pub accepted : count ≤ length lent → Judged q lent (answer_of 0 count)
-        unfolding drawn_part
-        accepted h =
-            let i = inside q is some in
-            let z : draw_number q lent ≡ 0
-            = by_last ∙ rw (i.0, le-leb (length (drawn_path q)) (length lent) (omega (arith, h, i.1))) in
-            record { answers = sym z; counts = i.1 ∙ rw z }
+      -- OR ACCEPTED
+      pub accepted : count ≤ length lent → Judged q lent (answer_of 0 count)
+      unfolding drawn_part
+      accepted h =
+          let i = inside q is in
+          let z : draw_number q lent ≡ 0
+          = by_last ∙ rw (i.0, le-leb (length (drawn_path q)) (length lent) (omega (arith, h, i.1))) in
+          record { answers = sym z; counts = i.1 ∙ rw z }
 
   -- WHAT 0 SAYS: every check passes
   pub record Accepted : Type 0 where

@@ -35,12 +35,9 @@ fn write_cells(rows: usize, cols: usize, codes: &[u8], start: u32, count: usize,
         ≡ overlaid (first_cells (grid_of rows cols codes.now) start count) path.old }
 {
     let mut walk = walk_from(cols, start);
-    let mut left = count;
-    while 0 < left {
-        let at = count - left;
-        path[at] = cell_number(cols, walk);
+    for place in &mut path[..count] {
+        *place = cell_number(cols, walk);
         walk = walk.step(rows, cols, codes);
-        left -= 1;
     }
 }
 
@@ -72,10 +69,9 @@ fn judge(
         return answer(number, 0);
     }
     let outlet = outlets[place];
-    let count = path_length(rows, cols, codes, accumulation, outlets, outlet, start);
-    if count == 0 {
+    let Some(count) = path_length(rows, cols, codes, accumulation, outlets, outlet, start) else {
         return answer(22, 0);
-    }
+    };
     let room = path.len();
     if room < count {
         return answer(23, 0);

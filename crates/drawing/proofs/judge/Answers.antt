@@ -32,20 +32,20 @@ bounds-outlets-place c =
     let passes = sym c.place_number-number.ensures ∙ c.if-number-ne0.false in
     omega (arith, (chosen q passes).in_list)
 
-pub path_length-count-requires : goal.path_length-count-requires
-path_length-count-requires c =
+pub path_length-requires : goal.path_length-requires
+path_length-requires c =
     let a = c.args in
     let q = drawing_of a.rows a.cols a.codes.now a.accumulation.now a.outlets.now a.place a.start in
     let passes = sym c.place_number-number.ensures ∙ c.if-number-ne0.false in
     (chosen q passes).surveyed
 
-pub returns-then-count-eq0 : goal.returns-then-count-eq0
-returns-then-count-eq0 c =
+pub returns-in_default : goal.returns-in_default
+returns-in_default c =
     let a = c.args in
     let q = drawing_of a.rows a.cols a.codes.now a.accumulation.now a.outlets.now a.place a.start in
     let passes = sym c.place_number-number.ensures ∙ c.if-number-ne0.false in
-    rw c.answer-then-count-eq0.ensures
-    (refused_22 q a.path.now passes c.path_length-count.ensures c.if-count-eq0.true)
+    rw c.answer-in_default.ensures
+    (refused_22 q a.path.now passes (sym c.in_default.is ∙ c.path_length.ensures))
 
 pub returns-then-room-count : goal.returns-then-room-count
 returns-then-room-count c =
@@ -53,7 +53,7 @@ returns-then-room-count c =
     let q = drawing_of a.rows a.cols a.codes.now a.accumulation.now a.outlets.now a.place a.start in
     let passes = sym c.place_number-number.ensures ∙ c.if-number-ne0.false in
     rw c.answer-then-room-count.ensures
-    (refused_23 q a.path.now passes c.path_length-count.ensures c.if-count-eq0.false c.if-room-count.true)
+    (refused_23 q a.path.now passes (sym c.in-Some.is ∙ c.path_length.ensures) c.if-room-count.true)
 
 pub returns : goal.returns
 returns c =
@@ -61,4 +61,4 @@ returns c =
     let q = drawing_of a.rows a.cols a.codes.now a.accumulation.now a.outlets.now a.place a.start in
     let passes = sym c.place_number-number.ensures ∙ c.if-number-ne0.false in
     rw c.answer-2.ensures
-    (accepted q a.path.now passes c.path_length-count.ensures c.if-count-eq0.false c.if-room-count.false)
+    (accepted q a.path.now passes (sym c.in-Some.is ∙ c.path_length.ensures) c.if-room-count.false)
