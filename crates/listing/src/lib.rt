@@ -3,20 +3,23 @@
 
 ghost use Rattle.std.specs.Prelude.{◌≡◌, ◌≤◌, length};
 ghost use Rattle.lists.specs.Slices.{overlaid};
+ghost use Rattle.answers.specs.Refusals.{refusal_number};
 ghost use Rattle.progress.specs.Starts.{kept};
 ghost use Rattle.listing.specs.Answering.{refused_with, answer_with};
 
-use answers::{Answer, Traced};
+use answers::{Answer, Refusal, Traced};
 use progress::Progress;
 
 // Refused before the search.
-pub fn refused(number: u32) -> Traced
-    ensures { result ≡ refused_with number }
+pub fn refused(refusal: Refusal) -> Traced
+    ensures { result ≡ refused_with (refusal_number refusal) }
 {
     Traced {
         visited: 0,
         dropped: 0,
-        answer: Answer::Refused { number },
+        answer: Answer::Refused {
+            number: refusal.number(),
+        },
     }
 }
 

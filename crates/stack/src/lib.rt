@@ -87,7 +87,8 @@ fn put_inflows(
     let mut at = top;
     for k in (0..8).rev() {
         if let Some(cell) = tributary(inner, rows, cols, codes, outlets, row, col, k) {
-            at = put(work, at, cell.row, cell.col, len.plus(step_at(k)));
+            let own = len.plus(step_at(k));
+            at = put(work, at, cell.row, cell.col, own);
         }
     }
     at

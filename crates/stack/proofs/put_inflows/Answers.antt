@@ -40,7 +40,7 @@ loop-k-preserved-in-Some c =
     joined (grid_of a.rows a.cols a.codes.now) a.outlets.now (a.row * a.cols + a.col) a.len
     l.k (omega arith) (omega arith) l.invariant cell.row cell.col
     (found_there f is) (f.col_in cell is)
-    (c.plus.ensures ∙ ap (plus_step a.len) c.step_at.ensures)
+    (c.plus-own.ensures ∙ ap (plus_step a.len) c.step_at.ensures)
     c.put-at.ensures
 
 pub loop-k-preserved : goal.loop-k-preserved
