@@ -32,6 +32,6 @@ pub returns : goal.returns
 returns c =
     let a = c.args in
     let v = c.loop-row.invariant in
-    let e : c.loop-row.row ≡ a.rows = omega (arith, v.0) in
-    subst (λ (n : ℕ). Counts (grid_of a.rows a.cols a.codes.now) (n * a.cols) a.words.now
+    let e : c.loop-row.row ≡ a.grid.rows = omega (arith, v.0) in
+    subst (λ (n : ℕ). Counts (grid_of a.grid.rows a.grid.cols a.grid.codes.now) (n * a.grid.cols) a.words.now
     c.loop-row.words) e v.1

@@ -6,6 +6,5 @@ use Rattle.counting.specs.Counting.{Counts}
 use Rattle.counting.proofs.count_all.Given as goal
 
 abbrev pub invariant-loop-row : goal.invariant-loop-row
-invariant-loop-row l = (l.row ≤ l.rows)
-    × Counts (grid_of l.rows l.cols l.codes) (l.row * l.cols) l.initial.words l.words
-
+invariant-loop-row l = (l.row ≤ l.grid.rows)
+    × Counts (grid_of l.grid.rows l.grid.cols l.grid.codes.now) (l.row * l.grid.cols) l.initial.words l.words

@@ -8,5 +8,4 @@ use Rattle.counting.proofs.count_inside.Given as goal
 
 abbrev pub invariant-loop-col : goal.invariant-loop-col
 invariant-loop-col l = (1 ≤ l.col)
-    × CountsRow (grid_of l.rows l.cols l.codes) l.row 1 l.col l.initial.words l.words × (l.col ≤ 4096)
-
+    × CountsRow (grid_of l.grid.rows l.grid.cols l.grid.codes.now) l.row 1 l.col l.initial.words l.words × (l.col ≤ 4096)

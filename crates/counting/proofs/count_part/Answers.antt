@@ -15,12 +15,12 @@ word_at-requires c =
 
 -- the cell's number, and that there is room for it
 here : (c : goal.After-word_at) → let a = c.args in
-    (a.row * a.cols + c.loop-col.col < a.rows * a.cols) × (a.rows * a.cols ≤ 4096 * 4096)
+    (a.row * a.grid.cols + c.loop-col.col < a.grid.rows * a.grid.cols) × (a.grid.rows * a.grid.cols ≤ 4096 * 4096)
 here c = in_grid c.requires.0 c.requires.1
     (omega (arith, c.loop-col-test.true, c.requires.3))
 
 room : (c : goal.After-word_at) → let a = c.args in
-    a.row * a.cols + c.loop-col.col < length c.loop-col.words
+    a.row * a.grid.cols + c.loop-col.col < length c.loop-col.words
 room c = in_words c.requires.0 c.requires.1
     (omega (arith, c.loop-col-test.true, c.requires.3)) c.loop-col.invariant.1.counting
 

@@ -7,5 +7,4 @@ use Rattle.counting.proofs.count_part.Given as goal
 
 abbrev pub invariant-loop-col : goal.invariant-loop-col
 invariant-loop-col l = (l.from ≤ l.col)
-    × CountsRow (grid_of l.rows l.cols l.codes) l.row l.from l.col l.initial.words l.words
-
+    × CountsRow (grid_of l.grid.rows l.grid.cols l.grid.codes.now) l.row l.from l.col l.initial.words l.words
