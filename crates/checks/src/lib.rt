@@ -5,7 +5,7 @@ ghost use Rattle.std.specs.Prelude.{◌≡◌, ◌&&◌, length, leb};
 ghost use Rattle.lists.specs.Lists.{In, different};
 ghost use Rattle.ground.specs.Tables.{Table, codes_of};
 ghost use Rattle.ground.specs.Grid.{grid_in, grid_of};
-ghost use Rattle.moves.specs.Lent.{LentGrid};
+ghost use Rattle.moves.specs.Grids.{ground_of};
 ghost use Rattle.answers.specs.Checks.{first_failed, all_pass, is_side};
 ghost use Rattle.answers.specs.Refusals.{number_told};
 ghost use Rattle.answers.specs.Entries.{catchment, grid_checks, agreed_checks, outlet_checks, place_checks};
@@ -13,6 +13,7 @@ ghost use Rattle.checks.specs.Tests.{is_placed};
 
 use agreement::agrees_all;
 use answers::Refusal;
+use moves::Grid;
 use tables::{all_codes, ours};
 
 // 10: is it a number of rows or of columns?
@@ -76,7 +77,8 @@ pub fn check_agreed(
         lent.now) }
 {
     check_grid(rows, cols, codes, lent)?;
-    if !agrees_all(rows, cols, codes, accumulation) {
+    let grid = Grid { rows, cols, codes };
+    if !agrees_all(grid, accumulation) {
         return Err(Refusal::Accumulation);
     }
     Ok(())
@@ -90,22 +92,18 @@ fn few_enough(outlets: &[u32]) -> bool
 }
 
 // 16: is the outlet the number of a cell with ground? The code is looked up only within the grid.
-pub fn is_placed(rows: usize, cols: usize, codes: &[u8], outlet: u32) -> bool
-    requires { LentGrid rows cols codes.now }
-    ensures { result ≡ is_placed (grid_of rows cols codes.now) outlet }
+pub fn is_placed(grid: Grid, outlet: u32) -> bool
+    ensures { result ≡ is_placed (ground_of grid.entry) outlet }
 {
     let at = outlet as usize;
-    at < rows * cols && codes[at] != 0
+    at < grid.rows * grid.cols && grid.codes[at] != 0
 }
 
 // 16: is each outlet of the list?
-fn all_placed(rows: usize, cols: usize, codes: &[u8], outlets: &[u32]) -> bool
-    requires { LentGrid rows cols codes.now }
-    ensures { result ≡ all_pass (is_placed (grid_of rows cols codes.now)) outlets.now }
+fn all_placed(grid: Grid, outlets: &[u32]) -> bool
+    ensures { result ≡ all_pass (is_placed (ground_of grid.entry)) outlets.now }
 {
-    outlets
-        .iter()
-        .all(|outlet| is_placed(rows, cols, codes, *outlet))
+    outlets.iter().all(|outlet| is_placed(grid, *outlet))
 }
 
 // 17: does none stand there twice?
@@ -136,10 +134,11 @@ pub fn check_outlets(
         lent.now) }
 {
     check_agreed(rows, cols, codes, accumulation, lent)?;
+    let grid = Grid { rows, cols, codes };
     if !few_enough(outlets) {
         return Err(Refusal::NoOutlets);
     }
-    if !all_placed(rows, cols, codes, outlets) {
+    if !all_placed(grid, outlets) {
         return Err(Refusal::OutletOffGround);
     }
     if !all_different(outlets) {

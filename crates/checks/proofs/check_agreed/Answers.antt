@@ -16,6 +16,12 @@ returns-in_err-check_grid c =
     refused _ c.from_residual.result (grid_checks (grid_of a.rows a.cols a.codes.now) a.lent.now) _
     c.from_residual.ensures.1 c.in_err-check_grid.ensures
 
+pub invariant_of-grid : goal.invariant_of-grid
+invariant_of-grid c =
+    let a = c.args in
+    let s = sized (grid_of a.rows a.cols a.codes.now) a.lent.now _ 0 (inl (omega arith)) (sym c.in_ok-check_grid.ensures) in
+    record { lent = s.grid }
+
 pub agrees_all-requires : goal.agrees_all-requires
 agrees_all-requires c =
     let a = c.args in

@@ -17,17 +17,18 @@ returns-in_err-check_agreed c =
     (agreed_checks (grid_of a.rows a.cols a.codes.now) a.accumulation.now a.lent.now) _
     c.from_residual.ensures.1 c.in_err-check_agreed.ensures
 
+pub invariant_of-grid : goal.invariant_of-grid
+invariant_of-grid c =
+    let a = c.args in
+    let s = sized (grid_of a.rows a.cols a.codes.now) a.lent.now _ 0 (inl (omega arith)) (sym c.in_ok-check_agreed.ensures) in
+    record { lent = s.grid }
+
 pub returns-then-not-few_enough : goal.returns-then-not-few_enough
 returns-then-not-few_enough c =
     let a = c.args in
     let judged = catchment a.rows a.cols a.codes.now a.accumulation.now a.outlets.now in
     not_few judged a.lent.now (sym c.in_ok-check_agreed.ensures)
     (sym c.few_enough.ensures ∙ c.if-not-few_enough.true)
-
-pub all_placed-requires : goal.all_placed-requires
-all_placed-requires c =
-    let a = c.args in
-    (sized (grid_of a.rows a.cols a.codes.now) a.lent.now _ 0 (inl (omega arith)) (sym c.in_ok-check_agreed.ensures)).grid
 
 pub returns-then-not-all_placed : goal.returns-then-not-all_placed
 returns-then-not-all_placed c =
