@@ -15,17 +15,17 @@ loop-k-init c = gathered_first c.requires
 pub list_inflows-n-requires : goal.list_inflows-n-requires
 list_inflows-n-requires c =
     can_follow c.requires c.loop-k.invariant c.loop-k-test.true
-    c.newest_first-cell.ensures
+    c.newest_first-number.ensures
 
 pub loop-k-preserved : goal.loop-k-preserved
 loop-k-preserved c =
-    gathered_next c.requires c.loop-k.invariant c.loop-k-test.true c.newest_first-cell.ensures
+    gathered_next c.requires c.loop-k.invariant c.loop-k-test.true c.newest_first-number.ensures
     c.list_inflows-n.ensures
 
 -- what is gathered at the end
 end : (c : goal.After-loop-k) → let a = c.args in
-    Gathers a.rows a.cols a.codes.now a.outlets.now (a.row * a.cols + a.col) a.grid.now
-    a.list.now c.loop-k.n c.loop-k.grid c.loop-k.list
+    Gathers a.grid.rows a.grid.cols a.grid.codes.now a.outlets.now (a.cell.row * a.grid.cols + a.cell.col) a.words.now
+    a.list.now c.loop-k.n c.loop-k.words c.loop-k.list
 end c = gathers c.requires c.loop-k.invariant
     c.loop-k-test.false
 

@@ -7,4 +7,4 @@ use Rattle.gathering.proofs.list_inflows.Given as goal
 
 abbrev pub invariant-loop-k : goal.invariant-loop-k
 invariant-loop-k l =
-    ListsFrom l.rows l.cols l.codes l.outlets l.row l.col (take l.k dirs) l.n l.initial.grid l.initial.list l.end l.grid l.list
+    ListsFrom l.grid.rows l.grid.cols l.grid.codes.now l.outlets l.cell.row l.cell.col (take l.k dirs) l.n l.initial.words l.initial.list l.end l.words l.list
