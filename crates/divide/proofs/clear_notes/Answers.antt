@@ -10,7 +10,7 @@ loop-word-init c = clears_none
 
 pub loop-word-preserved : goal.loop-word-preserved
 loop-word-preserved c =
-    let e = length-take-le c.args.n c.args.grid.now c.requires in
+    let e = length-take-le c.args.n c.args.words.now c.requires in
     clears_more (omega arith) (omega arith) c.loop-word.invariant
 
 pub returns : goal.returns

@@ -14,6 +14,6 @@ use Rattle.divide.proofs.inner_beside.Goals as goal
 pub returns : goal.returns
 returns c = let a = c.args in
     beside_any _ _ _ (any_from_yields_List
-    (λ k. is_outside a.grid.now (neighbour (grid_of a.rows a.cols a.codes.now) (a.row * a.cols + a.col) (dir_at k))) _ _ _
+    (λ k. is_outside a.words.now (neighbour (grid_of a.grid.rows a.grid.cols a.grid.codes.now) (a.cell.row * a.grid.cols + a.cell.col) (dir_at k))) _ _ _
     c.any.ensures.ran (YieldsList-from_range 0 8 _ refl refl)
     (λ x b q k. search (rules, tests, beside_word)))

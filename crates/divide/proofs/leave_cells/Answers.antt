@@ -19,4 +19,4 @@ pub returns : goal.returns
 returns c =
     let a = c.args in
     let e : c.loop-number.number-index ≡ a.n = omega (arith, length-take-le a.n a.list.now c.requires.on_list.within) in
-    subst (λ (k : ℕ). LeavesCells a.rows a.cols k a.list.now a.grid.now c.loop-number.grid) e c.loop-number.invariant
+    subst (λ (k : ℕ). LeavesCells a.grid.rows a.grid.cols k a.list.now a.words.now c.loop-number.words) e c.loop-number.invariant

@@ -4,4 +4,4 @@ use Rattle.divide.specs.Divides.{LeavesCells}
 use Rattle.divide.proofs.leave_cells.Given as goal
 
 abbrev pub invariant-loop-number : goal.invariant-loop-number
-invariant-loop-number l = LeavesCells l.rows l.cols l.number-index l.list l.initial.grid l.grid
+invariant-loop-number l = LeavesCells l.grid.rows l.grid.cols l.number-index l.list l.initial.words l.words

@@ -20,9 +20,9 @@ loop-number-preserved c =
     let l = c.loop-number in
     let e = c.is_beside.ensures in
     elim c.if-not-is_beside.branch [
-      | then-not-is_beside w ↦ rw w.grid-is (notes_more s.on_list h s.has_room c.args.codes.now l.invariant e
+      | then-not-is_beside w ↦ rw w.words-is (notes_more s.on_list h s.has_room c.args.grid.codes.now l.invariant e
           (ap not w.if-not-is_beside.true))
-      | else-not-is_beside w ↦ rw w.grid-is (notes_past s.on_list h s.has_room c.args.codes.now l.invariant e
+      | else-not-is_beside w ↦ rw w.words-is (notes_past s.on_list h s.has_room c.args.grid.codes.now l.invariant e
           (ap not w.if-not-is_beside.false))
     ]
 
@@ -30,4 +30,4 @@ pub returns : goal.returns
 returns c =
     let a = c.args in
     let e : c.loop-number.number-index ≡ a.n = omega (arith, length-take-le a.n a.list.now c.requires.on_list.within) in
-    subst (λ (k : ℕ). NotesCells a.rows a.cols a.codes.now k a.list.now a.grid.now c.loop-number.grid) e c.loop-number.invariant
+    subst (λ (k : ℕ). NotesCells a.grid.rows a.grid.cols a.grid.codes.now k a.list.now a.words.now c.loop-number.words) e c.loop-number.invariant

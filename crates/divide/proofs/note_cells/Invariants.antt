@@ -4,4 +4,4 @@ use Rattle.divide.specs.Divides.{NotesCells}
 use Rattle.divide.proofs.note_cells.Given as goal
 
 abbrev pub invariant-loop-number : goal.invariant-loop-number
-invariant-loop-number l = NotesCells l.rows l.cols l.codes l.number-index l.list l.initial.grid l.grid
+invariant-loop-number l = NotesCells l.grid.rows l.grid.cols l.grid.codes.now l.number-index l.list l.initial.words l.words

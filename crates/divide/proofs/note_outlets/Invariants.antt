@@ -8,4 +8,4 @@ use Rattle.divide.proofs.note_outlets.Given as goal
 
 abbrev pub invariant-loop-outlet : goal.invariant-loop-outlet
 invariant-loop-outlet l =
-    Changes with_outlet l.n (λ x. member x (take l.outlet-index l.outlets)) l.initial.grid l.grid
+    Changes with_outlet l.n (λ x. member x (take l.outlet-index l.outlets)) l.initial.words l.words
