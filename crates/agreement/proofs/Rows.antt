@@ -1,7 +1,7 @@
 -- The equation along a row, cell by cell, and over the grid, row by row.
 -- Assumes nothing.
 use mathlib.Core.Path.{◌≡◌, refl, sym, ap, ◌∙◌}
-use mathlib.Core.Bool.{Bool, true, false, true≢false}
+use mathlib.Core.Bool.{Bool, true, false, ◌&&◌, true≢false}
 use mathlib.Core.List.{List}
 use Prim.Native.Nat.{ℕ, zero, suc, ◌+◌, ◌-◌, ◌*◌, ◌≤◌, ◌<◌}
 use native.Mathlib.Decide.{dec_lt}
@@ -61,6 +61,14 @@ module _ {g : Grid} {a : List ℕ} {row : ℕ} where
 
     pub along_fails : {end : ℕ} → agrees g a ≡ false → AgreesAlong g a row first end false
     along_fails e = record { holds = λ y. absurd (true≢false (sym y)); fails = λ y. e }
+
+    -- one cell more, in the answer so far or not
+    pub along_with : {end : ℕ} (r here : Bool) → AgreesAlong g a row first end r
+        → here ≡ agrees_at g a (row * g.cols + end) → (here ≡ false → agrees g a ≡ false)
+        → AgreesAlong g a row first (end + 1) (r && here)
+    along_with true true h e f = along_next h (sym e)
+    along_with true false h e f = along_fails (f refl)
+    along_with false here h e f = along_fails (h.fails refl)
 
   -- the first cell, the last and those between
   pub along_whole : {r : Bool} → agrees_at g a (row * g.cols + 0) ≡ true

@@ -10,9 +10,9 @@ ghost use Rattle.agreement.specs.Lent.{Lent, LentRow, InnerRow};
 ghost use Rattle.agreement.specs.Equation.{agrees_at, AgreesAlong};
 
 use inflows::{inflows_of, inner_inflows};
-use lists::wide;
 
 // Does it at a cell?
+#[tactic(auto, using(crate::proofs::Cells::inside))]
 fn agrees_at(
     rows: usize,
     cols: usize,
@@ -26,7 +26,7 @@ fn agrees_at(
         ≡ agrees_at (grid_of rows cols codes.now) accumulation.now (row * cols + col) }
 {
     let at = row * cols + col;
-    let value = wide(accumulation[at]);
+    let value = u64::from(accumulation[at]);
     if codes[at] == 0 {
         return value == 0;
     }
@@ -35,6 +35,7 @@ fn agrees_at(
 }
 
 // Does it at an inner cell? All is loaded before the code is looked at, so that no branch is left.
+#[tactic(auto, using(crate::proofs::Cells::inside))]
 fn agrees_inside(
     rows: usize,
     cols: usize,
@@ -48,11 +49,9 @@ fn agrees_inside(
         ≡ agrees_at (grid_of rows cols codes.now) accumulation.now (row * cols + col) }
 {
     let at = row * cols + col;
-    let value = wide(accumulation[at]);
-    let mut due = inner_inflows(rows, cols, codes, accumulation, row, col).sum() + 1;
-    if codes[at] == 0 {
-        due = 0;
-    }
+    let value = u64::from(accumulation[at]);
+    let sum = inner_inflows(rows, cols, codes, accumulation, row, col).sum();
+    let due = if codes[at] == 0 { 0 } else { sum + 1 };
     value == due
 }
 
@@ -64,13 +63,8 @@ fn inside_agrees(rows: usize, cols: usize, codes: &[u8], accumulation: &[u32], r
         (cols - 1) result }
 {
     let mut agreed = true;
-    let mut col: usize = 1;
-    while col + 1 < cols {
-        let holds = agrees_inside(rows, cols, codes, accumulation, row, col);
-        col += 1;
-        if !holds {
-            agreed = false;
-        }
+    for col in 1..cols - 1 {
+        agreed &= agrees_inside(rows, cols, codes, accumulation, row, col);
     }
     agreed
 }
@@ -81,12 +75,10 @@ fn edge_agrees(rows: usize, cols: usize, codes: &[u8], accumulation: &[u32], row
     ensures { AgreesAlong (grid_of rows cols codes.now) accumulation.now row 1
         (cols - 1) result }
 {
-    let mut col: usize = 1;
-    while col + 1 < cols {
+    for col in 1..cols - 1 {
         if !agrees_at(rows, cols, codes, accumulation, row, col) {
             return false;
         }
-        col += 1;
     }
     true
 }
@@ -97,18 +89,16 @@ fn row_agrees(rows: usize, cols: usize, codes: &[u8], accumulation: &[u32], row:
     requires { LentRow rows cols codes.now accumulation.now row }
     ensures { AgreesAlong (grid_of rows cols codes.now) accumulation.now row 0 cols result }
 {
-    if !agrees_at(rows, cols, codes, accumulation, row, 0) {
+    if !agrees_at(rows, cols, codes, accumulation, row, 0)
+        || !agrees_at(rows, cols, codes, accumulation, row, cols - 1)
+    {
         return false;
     }
-    if !agrees_at(rows, cols, codes, accumulation, row, cols - 1) {
-        return false;
+    if 0 < row && row + 1 < rows {
+        inside_agrees(rows, cols, codes, accumulation, row)
+    } else {
+        edge_agrees(rows, cols, codes, accumulation, row)
     }
-    if 0 < row {
-        if row + 1 < rows {
-            return inside_agrees(rows, cols, codes, accumulation, row);
-        }
-    }
-    edge_agrees(rows, cols, codes, accumulation, row)
 }
 
 // Does it at every cell?
@@ -116,12 +106,10 @@ pub fn agrees_all(rows: usize, cols: usize, codes: &[u8], accumulation: &[u32]) 
     requires { Lent rows cols codes.now accumulation.now }
     ensures { result ≡ agrees (grid_of rows cols codes.now) accumulation.now }
 {
-    let mut row: usize = 0;
-    while row < rows {
+    for row in 0..rows {
         if !row_agrees(rows, cols, codes, accumulation, row) {
             return false;
         }
-        row += 1;
     }
     true
 }

@@ -9,24 +9,9 @@ use Rattle.agreement.proofs.Cells.{null_agrees, ground_agrees, inside}
 use Rattle.agreement.proofs.Sums.{record_small}
 use Rattle.agreement.proofs.agrees_at.Goals as goal
 
-pub overflow_mul-at : goal.overflow_mul-at
-overflow_mul-at c = omega (arith, inside c.requires)
-
-pub overflow_add-at : goal.overflow_add-at
-overflow_add-at c = omega (arith, inside c.requires)
-
-pub offset_bounds-accumulation-at : goal.offset_bounds-accumulation-at
-offset_bounds-accumulation-at c = omega (arith, inside c.requires)
-
-pub bounds-accumulation-at : goal.bounds-accumulation-at
-bounds-accumulation-at c = omega (arith, inside c.requires)
-
-pub bounds-codes-at : goal.bounds-codes-at
-bounds-codes-at c = omega (arith, inside c.requires)
-
 pub returns-then-codes-at-eq0 : goal.returns-then-codes-at-eq0
 returns-then-codes-at-eq0 c =
-    null_agrees _ _ (inside c.requires).0 c.args.accumulation.now c.wide-value.ensures.0
+    null_agrees _ _ (inside c.requires).0 c.args.accumulation.now c.from-value.ensures
     c.if-codes-at-eq0.true
 
 -- what was added up is the record's sum
@@ -49,5 +34,5 @@ overflow_add-result c =
 pub returns : goal.returns
 returns c =
     ground_agrees _ _ (inside c.requires).0 c.args.accumulation.now
-    c.wide-value.ensures.0
+    c.from-value.ensures
     (sum_is c) c.if-codes-at-eq0.false

@@ -11,24 +11,12 @@ use Rattle.agreement.proofs.Sums.{record_small}
 use Rattle.agreement.proofs.agrees_inside.Goals as goal
 use Rattle.agreement.proofs.agrees_inside.Goals.{then-codes-at-eq0, else-codes-at-eq0}
 
-pub overflow_mul-at : goal.overflow_mul-at
-overflow_mul-at c = omega (arith, inside c.requires.has)
-
-pub overflow_add-at : goal.overflow_add-at
-overflow_add-at c = omega (arith, inside c.requires.has)
-
-pub offset_bounds-accumulation-at : goal.offset_bounds-accumulation-at
-offset_bounds-accumulation-at c = omega (arith, inside c.requires.has)
-
-pub bounds-accumulation-at : goal.bounds-accumulation-at
-bounds-accumulation-at c = omega (arith, inside c.requires.has)
-
 -- what was added up is the record's sum
-sum_is : (c : goal.After-sum-due) → let a = c.args in
-    c.sum-due.result
+sum_is : (c : goal.Else-codes-at-eq0) → let a = c.args in
+    c.sum-sum.result
     ≡ sum_of (inflow_record (grid_of a.rows a.cols a.codes.now) a.accumulation.now
     (a.row * a.cols + a.col))
-sum_is c = c.sum-due.ensures ∙ rw c.inner_inflows.ensures
+sum_is c = c.sum-sum.ensures ∙ rw c.inner_inflows.ensures
 
 pub overflow_add-due : goal.overflow_add-due
 overflow_add-due c =
@@ -40,16 +28,13 @@ overflow_add-due c =
           (c.args.row * c.args.cols + c.args.col),
     )
 
-pub bounds-codes-at : goal.bounds-codes-at
-bounds-codes-at c = omega (arith, inside c.requires.has)
-
 pub returns : goal.returns
 returns c =
-    let value = c.wide-value in
+    let value = c.from-value in
     elim c.if-codes-at-eq0.branch [
       | then-codes-at-eq0 w ↦ ap (eqb value.result) w.due-is
-          ∙ null_agrees _ _ (inside c.requires.has).0 c.args.accumulation.now value.ensures.0 w.if-codes-at-eq0.true
+          ∙ null_agrees _ _ (inside c.requires.has).0 c.args.accumulation.now value.ensures w.if-codes-at-eq0.true
       | else-codes-at-eq0 w ↦ ap (eqb value.result) w.due-is
-          ∙ ground_agrees _ _ (inside c.requires.has).0 c.args.accumulation.now value.ensures.0
-          (c.sum-due.ensures ∙ rw c.inner_inflows.ensures) w.if-codes-at-eq0.false
+          ∙ ground_agrees _ _ (inside c.requires.has).0 c.args.accumulation.now value.ensures
+          (c.sum-sum.ensures ∙ rw c.inner_inflows.ensures) w.if-codes-at-eq0.false
     ]

@@ -9,5 +9,3 @@ abbrev pub invariant-loop-row : goal.invariant-loop-row
 invariant-loop-row l = (l.row ≤ l.rows)
     × Counts (grid_of l.rows l.cols l.codes) (l.row * l.cols) l.initial.words l.words
 
-abbrev pub decreases-loop-row : goal.decreases-loop-row
-decreases-loop-row l = l.rows - l.row

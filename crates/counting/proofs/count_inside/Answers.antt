@@ -10,9 +10,6 @@ use Rattle.counting.proofs.count_inside.Goals as goal
 pub loop-col-init : goal.loop-col-init
 loop-col-init c = (omega arith, row_begin (omega arith), omega arith)
 
-pub overflow_add-col : goal.overflow_add-col
-overflow_add-col c = omega (arith, c.loop-col.invariant.2)
-
 pub inner_word_at-requires : goal.inner_word_at-requires
 inner_word_at-requires c =
     let v = c.loop-col.invariant.0 in
@@ -22,7 +19,7 @@ inner_word_at-requires c =
         has_above = c.requires.1;
         has_below = c.requires.2;
         has_left = v;
-        has_right = c.loop-col-test.true;
+        has_right = omega (arith, c.loop-col-test.true);
       };
     }
 

@@ -10,5 +10,3 @@ abbrev pub invariant-loop-col : goal.invariant-loop-col
 invariant-loop-col l = (1 ≤ l.col)
     × CountsRow (grid_of l.rows l.cols l.codes) l.row 1 l.col l.initial.words l.words × (l.col ≤ 4096)
 
-abbrev pub decreases-loop-col : goal.decreases-loop-col
-decreases-loop-col l = l.cols - l.col

@@ -9,5 +9,3 @@ abbrev pub invariant-loop-col : goal.invariant-loop-col
 invariant-loop-col l = (l.from ≤ l.col)
     × CountsRow (grid_of l.rows l.cols l.codes) l.row l.from l.col l.initial.words l.words
 
-abbrev pub decreases-loop-col : goal.decreases-loop-col
-decreases-loop-col l = l.cols - l.col
