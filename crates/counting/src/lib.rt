@@ -38,7 +38,10 @@ fn word_at(rows: usize, cols: usize, codes: &[u8], row: usize, col: usize) -> u3
     requires { OnCell rows cols codes.now row col }
     ensures { result ≡ counted_word (grid_of rows cols codes.now) (row * cols + col) }
 {
-    word_of(codes[row * cols + col], array::from_fn(|k| flows_in(rows, cols, codes, row, col, k)))
+    word_of(
+        codes[row * cols + col],
+        array::from_fn(|k| flows_in(rows, cols, codes, row, col, k)),
+    )
 }
 
 // The word of an inner cell. No border is tested.
@@ -46,7 +49,11 @@ fn inner_word_at(rows: usize, cols: usize, codes: &[u8], row: usize, col: usize)
     requires { InnerOn rows cols codes.now row col }
     ensures { result ≡ counted_word (grid_of rows cols codes.now) (row * cols + col) }
 {
-    word_of(codes[row * cols + col], array::from_fn(|k| inner_neighbour(rows, cols, codes, row, col, k).flows))
+    let here = row * cols + col;
+    word_of(
+        codes[here],
+        array::from_fn(|k| inner_neighbour(rows, cols, codes, row, col, k).flows),
+    )
 }
 
 // Counts the inner cells of a row that is neither the first nor the last.
