@@ -25,8 +25,8 @@ fn flows_in(rows: usize, cols: usize, codes: &[u8], row: usize, col: usize, k: u
 
 // The word of a cell with this code, by which neighbours flow in: 0 at a null cell, else 1 and the inflows. It adds up
 // before it asks for the code, so that no branch is left.
-fn word_of(code: u8, flows: [bool; 8]) -> u32
-    ensures { result ≡ word_by code (count_by (λ b. b) flows) }
+fn word_of(code: u8, flows: &[bool; 8]) -> u32
+    ensures { result ≡ word_by code (count_by (λ b. b) flows.now) }
 {
     let inflows: u32 = flows.iter().map(|flows| u32::from(*flows)).sum();
     let word = 1 + INFLOW * inflows;
@@ -38,7 +38,10 @@ fn word_at(rows: usize, cols: usize, codes: &[u8], row: usize, col: usize) -> u3
     requires { OnCell rows cols codes.now row col }
     ensures { result ≡ counted_word (grid_of rows cols codes.now) (row * cols + col) }
 {
-    word_of(codes[row * cols + col], array::from_fn(|k| flows_in(rows, cols, codes, row, col, k)))
+    word_of(
+        codes[row * cols + col],
+        &array::from_fn(|k| flows_in(rows, cols, codes, row, col, k)),
+    )
 }
 
 // The word of an inner cell. No border is tested.
@@ -46,7 +49,11 @@ fn inner_word_at(rows: usize, cols: usize, codes: &[u8], row: usize, col: usize)
     requires { InnerOn rows cols codes.now row col }
     ensures { result ≡ counted_word (grid_of rows cols codes.now) (row * cols + col) }
 {
-    word_of(codes[row * cols + col], array::from_fn(|k| inner_neighbour(rows, cols, codes, row, col, k).flows))
+    let here = row * cols + col;
+    word_of(
+        codes[here],
+        &array::from_fn(|k| inner_neighbour(rows, cols, codes, row, col, k).flows),
+    )
 }
 
 // Counts the inner cells of a row that is neither the first nor the last.
