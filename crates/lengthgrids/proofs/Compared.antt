@@ -7,20 +7,20 @@ use Prim.Native.Nat.{ℕ}
 use lib.ListN.{set}
 use Rattle.lengths.specs.declared.Step.{Step}
 use Rattle.lengths.specs.declared.Length.{Length}
-use Rattle.lengths.specs.declared.Order.{Order}
-use Rattle.lengths.specs.declared.Order.TheVariants.{Shorter}
+use Rattle.std.specs.declared.cmp.Ordering.{Ordering}
+use Rattle.std.specs.declared.cmp.Ordering.TheVariants.{Less}
 use Rattle.lengths.specs.Rule.{plus_step, compared, says_shorter, is_shorter}
 use Rattle.lengthgrids.specs.Grids.{length_above, GivesUp}
 
 module _ (x y : ℕ) (step : Step) (us ud : List ℕ) {longer : Length}
     (is-longer : longer ≡ plus_step (length_above us ud x) step)
-    {r : Order} (says : r ≡ compared (length_above us ud y) longer) where
+    {r : Ordering} (says : r ≡ compared (length_above us ud y) longer) where
   shorter_is : is_shorter (length_above us ud y) (plus_step (length_above us ud x) step) ≡ says_shorter r
   unfolding is_shorter
   shorter_is = ap (λ (l : Length). says_shorter (compared (length_above us ud y) l)) (sym is-longer)
       ∙ ap says_shorter (sym says)
 
-  pub gives_longer : r ≡ Shorter → GivesUp x y step us ud (set us y longer.straight) (set ud y longer.diagonal)
+  pub gives_longer : r ≡ Less → GivesUp x y step us ud (set us y longer.straight) (set ud y longer.diagonal)
   gives_longer e =
       let s : is_shorter (length_above us ud y) (plus_step (length_above us ud x) step) ≡ true =
       shorter_is ∙ ap says_shorter e in

@@ -42,11 +42,7 @@ pub fn clear(n: usize, list: &mut [u32])
     requires { n ≤ length list.old }
     ensures { Cleared n n list.old list.new }
 {
-    let mut i: usize = 0;
-    while i < n {
-        list[i] = 0;
-        i += 1;
-    }
+    list[..n].fill(0);
 }
 
 // Copies bytes to a place and those after it.
@@ -54,23 +50,12 @@ pub fn copy(from: &[u8], to: &mut [u8], place: usize)
     requires { place + length from.now ≤ length to.old }
     ensures { to.new ≡ sets to.old place from.now }
 {
-    let mut i: usize = 0;
-    while i < from.len() {
-        to[place + i] = from[i];
-        i += 1;
-    }
+    to[place..place + from.len()].copy_from_slice(from);
 }
 
 // Does a number stand in the list, at a place or after it?
 pub fn is_among(list: &[u32], from: usize, x: usize) -> bool
     ensures { result ≡ member x (drop from list.now) }
 {
-    let mut k = from;
-    while k < list.len() {
-        if index_of(list[k]) == x {
-            return true;
-        }
-        k += 1;
-    }
-    false
+    list.iter().skip(from).any(|y| *y as usize == x)
 }

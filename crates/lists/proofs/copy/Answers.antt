@@ -1,28 +1,8 @@
--- `lists::copy` meets its contract. The loop's invariant: storing the rest stores all.
+-- `lists::copy` meets its contract: the part that was written holds the bytes.
 -- Assumes nothing.
-use mathlib.Core.Path.{refl, sym, ◌∙◌}
-use Prim.Native.Nat.{◌+◌}
-use native.Mathlib.Nat.{add-zero}
-use native.Mathlib.Omega.{arith}
-use lib.ListN.{length-set}
-use Rattle.lists.proofs.Overlaid.{copy_next, copied}
-use borrow.Author.Rules.{rules}
+use Rattle.std.proofs.Common.{arith}
+use Rattle.lists.proofs.Overlaid.{part_written}
 use Rattle.lists.proofs.copy.Goals as goal
 
-pub loop-i-init : goal.loop-i-init
-loop-i-init c = (search rules, refl, rw (add-zero c.args.place))
-
-pub loop-i-preserved : goal.loop-i-preserved
-loop-i-preserved c =
-    let a = c.args in
-    let l = c.loop-i in (
-      search rules,
-      length-set l.to (a.place + l.i) _ ∙ l.invariant.1,
-      l.invariant.2 ∙ copy_next l.to a.from.now a.place l.i c.loop-i-test.true,
-    )
-
 pub returns : goal.returns
-returns c =
-    let a = c.args in
-    let l = c.loop-i in
-    copied l.to a.from.now (a.place + l.i) l.i (omega arith) ∙ sym l.invariant.2
+returns c = part_written c.args.to.now c.args.from.now c.args.place _ _ c.copy_from_slice.ensures.after (omega arith) (omega arith)
