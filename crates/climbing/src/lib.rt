@@ -13,7 +13,6 @@ ghost use Rattle.climbing.specs.Giving.{Climbable, Resting};
 use cells::split_number;
 use downstream::offsets;
 use lengthgrids::{give_down, give_up};
-use lists::index_of;
 use moves::step_of;
 use traversal::{MARK, Position, below, moved, next_turn};
 
@@ -45,7 +44,7 @@ fn climb(
     let mut p = Position {
         row: outlet.row,
         col: outlet.col,
-        at: index_of(outlets[place]),
+        at: outlets[place] as usize,
         turn: 0,
     };
     loop {
@@ -88,9 +87,7 @@ pub fn climb_all(
         (length_grids ds.new dd.new us.new ud.new) }
 {
     let steps = offsets(cols);
-    let mut j: usize = 0;
-    while j < outlets.len() {
+    for j in 0..outlets.len() {
         climb(rows, cols, codes, outlets, &steps, ds, dd, us, ud, j);
-        j += 1;
     }
 }

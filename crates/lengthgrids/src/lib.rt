@@ -8,8 +8,8 @@ ghost use Rattle.lists.specs.Slices.{Within};
 ghost use Rattle.answers.specs.FlowLengths.{length_grids};
 ghost use Rattle.lengthgrids.specs.Grids.{MarkedWith, Room, Prepared, Countable, GivesDown, GivesUp};
 
-use lengths::{Length, Order, Step};
-use lists::{clear, index_of};
+use lengths::{Length, Step};
+use lists::clear;
 use traversal::MARK;
 
 // Puts a number in the place of each outlet.
@@ -18,11 +18,8 @@ pub fn mark(n: usize, outlets: &[u32], marks: &mut [u32], to: u32)
     ensures { MarkedWith n outlets.now (length outlets.now) to marks.old
         marks.new }
 {
-    let mut j: usize = 0;
-    while j < outlets.len() {
-        let at = index_of(outlets[j]);
-        marks[at] = to;
-        j += 1;
+    for at in outlets {
+        marks[*at as usize] = to;
     }
 }
 
@@ -77,12 +74,8 @@ pub fn give_up(straights: &mut [u32], diagonals: &mut [u32], x: usize, y: usize,
         straight: straights[y],
         diagonal: diagonals[y],
     };
-    match own.compare(longer) {
-        Order::Shorter => {
-            straights[y] = longer.straight;
-            diagonals[y] = longer.diagonal;
-        }
-        Order::Same => return,
-        Order::Longer => return,
+    if own.compare(longer).is_lt() {
+        straights[y] = longer.straight;
+        diagonals[y] = longer.diagonal;
     }
 }

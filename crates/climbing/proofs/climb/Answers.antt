@@ -1,5 +1,6 @@
 -- `climbing::climb` meets its contract. The invariant: the traversal stands at a cell. The measure: cells without a
 -- length count double, and the steps to the outlet once. Assumes nothing.
+use mathlib.Core.Path.{refl}
 use native.Mathlib.Omega.{arith}
 use Rattle.traversal.proofs.Moving.{at_inside}
 use Rattle.climbing.proofs.Climbing.{standing_begin, room_now, x_inside, cells_few}
@@ -14,8 +15,8 @@ split_number-outlet-requires c = c.requires.climbable.some_cols
 pub loop-p-init : goal.loop-p-init
 loop-p-init c =
     let s = c.requires in
-    standing_begin s.climbable s.place_in_bounds.1 s.place_in_bounds.0 c.index_of.ensures.0 s.resting
-    (rw c.index_of.ensures.0 c.split_number-outlet.ensures)
+    standing_begin s.climbable s.place_in_bounds.1 s.place_in_bounds.0 refl s.resting
+    c.split_number-outlet.ensures
 
 pub next_turn-k-requires : goal.next_turn-k-requires
 next_turn-k-requires c =

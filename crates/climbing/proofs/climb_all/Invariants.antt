@@ -10,10 +10,6 @@ use Rattle.climbing.proofs.climb_all.Given as goal
 
 abbrev pub invariant-loop-j : goal.invariant-loop-j
 invariant-loop-j l =
-    (l.j ≤ length l.outlets)
-    × Resting (grid_of l.rows l.cols l.codes) l.outlets l.j (length_grids l.ds l.dd l.us l.ud)
+    Resting (grid_of l.rows l.cols l.codes) l.outlets l.j (length_grids l.ds l.dd l.us l.ud)
     × GridsKept (l.rows * l.cols) (length_grids l.initial.ds l.initial.dd l.initial.us l.initial.ud)
     (length_grids l.ds l.dd l.us l.ud)
-
-abbrev pub decreases-loop-j : goal.decreases-loop-j
-decreases-loop-j l = length l.outlets - l.j
