@@ -1,7 +1,7 @@
 // Reading a sheet, byte for byte (01, Sheet and desk).
 #![tactic(auto)]
 
-ghost use Rattle.std.specs.Prelude.{◌≡◌, ◌+◌, ◌*◌, ◌≤◌, ◌<◌, length, drop};
+ghost use Rattle.std.specs.Prelude.{◌≡◌, ◌+◌, ◌*◌, ◌≤◌, ◌<◌, length, get_or, drop};
 ghost use Rattle.std.proofs.lemmas.List.Edits.{sets};
 ghost use Rattle.spelling.specs.Format.{mark};
 ghost use Rattle.spelling.specs.Reading.{is_record, codes_from, outlets_from, sheet_told, read_answer, Reads};
@@ -19,11 +19,12 @@ struct Cursor {
 
 impl Cursor {
     // Does a whole record of so many bytes stand here, with this mark?
-    fn is_record(self, file: &[u8], first: u8, second: u8, size: usize) -> bool
+    fn is_record(self, file: &[u8], letters: &[u8; 2], size: usize) -> bool
         requires { (2 ≤ size) × (self.at ≤ length file.now) }
-        ensures { result ≡ is_record (mark first second) size (drop self.at file.now) }
+        ensures { result ≡ is_record (mark (get_or letters.now 0 0) (get_or letters.now 1 0)) size (drop self.at file.now) }
     {
-        size <= file.len() - self.at && file[self.at] == first && file[self.at + 1] == second
+        let rest = &file[self.at..];
+        size <= rest.len() && rest.starts_with(letters)
     }
 
     // The number that begins so many bytes from here, low byte first.
@@ -41,7 +42,7 @@ fn row_at(file: &[u8], here: Cursor, row: usize, cols: usize) -> Result<Cursor, 
     requires { (here.at ≤ length file.now) × (cols ≤ 64) }
     ensures { row_says file.now cols row here.at result }
 {
-    if !here.is_record(file, b'R', b'W', 4 + cols) || here.number(file, 2) != row {
+    if !here.is_record(file, b"RW", 4 + cols) || here.number(file, 2) != row {
         return Err(Refusal::Row);
     }
     let start = here.at + 4;
@@ -69,13 +70,13 @@ fn record_at(file: &[u8], here: Cursor, rows: usize, cols: usize) -> Result<Opti
     requires { here.at ≤ length file.now }
     ensures { record_says file.now rows cols here.at result }
 {
-    if here.is_record(file, b'E', b'N', 2) {
+    if here.is_record(file, b"EN", 2) {
         if file.len() - here.at != 2 {
             return Err(Refusal::AfterEnd);
         }
         return Ok(None);
     }
-    if !here.is_record(file, b'O', b'T', 6) {
+    if !here.is_record(file, b"OT", 6) {
         return Err(Refusal::Record);
     }
     if here.number(file, 2) >= rows || here.number(file, 4) >= cols {
@@ -118,7 +119,7 @@ fn judge(file: &[u8], grid: usize, list: usize) -> Result<Sheet, Refusal>
     ensures { sheet_told result ≡ read_answer file.now grid list }
 {
     let start = Cursor { at: 0 };
-    if !start.is_record(file, b'D', b'8', 6) {
+    if !start.is_record(file, b"D8", 6) {
         return Err(Refusal::Header);
     }
     let rows = start.number(file, 2);

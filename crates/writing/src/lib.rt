@@ -6,7 +6,7 @@ ghost use Rattle.std.proofs.lemmas.List.Edits.{sets};
 ghost use Rattle.answers.specs.Refusals.{number_told};
 ghost use Rattle.answers.specs.Checks.{first_failed, all_pass};
 ghost use Rattle.spelling.specs.Content.{content};
-ghost use Rattle.spelling.specs.Format.{mark, marked, two_bytes, row_record, row_records, outlet_records, spelling};
+ghost use Rattle.spelling.specs.Format.{two_bytes, row_record, row_records, outlet_records, spelling};
 ghost use Rattle.spelling.specs.Writing.{content_checks, written_told, write_number, write_answer, Writes};
 ghost use Rattle.writing.specs.Puts.{Puts};
 
@@ -64,14 +64,14 @@ fn judge_content(
     Ok(length as u32)
 }
 
-// Puts two bytes at a place; the answer is the place after them.
-fn put(file: &mut [u8], at: usize, first: u8, second: u8) -> usize
-    requires { at + 2 ≤ length file.old }
-    ensures { Puts (first ∷ second ∷ []) at file.old result file.new }
+// Puts bytes at a place; the answer is the place after them.
+fn put(file: &mut [u8], at: usize, bytes: &[u8]) -> usize
+    requires { at + length bytes.now ≤ length file.old }
+    ensures { Puts bytes.now at file.old result file.new }
 {
-    file[at] = first;
-    file[at + 1] = second;
-    at + 2
+    let end = at + bytes.len();
+    file[at..end].copy_from_slice(bytes);
+    end
 }
 
 // Puts a number, low byte first.
@@ -79,16 +79,16 @@ fn put_number(file: &mut [u8], at: usize, n: usize) -> usize
     requires { (at + 2 ≤ length file.old) × (n < 65536) }
     ensures { Puts (two_bytes n) at file.old result file.new }
 {
-    put(file, at, (n % 256) as u8, (n / 256) as u8)
+    put(file, at, &(n as u16).to_le_bytes())
 }
 
 // Puts a record of two numbers, with this mark.
-fn put_pair(file: &mut [u8], at: usize, first: u8, second: u8, a: usize, b: usize) -> usize
+fn put_pair(file: &mut [u8], at: usize, mark: &[u8; 2], a: usize, b: usize) -> usize
     requires { (at + 6 ≤ length file.old) × (a < 65536) × (b < 65536) }
-    ensures { Puts (marked (mark first second) (two_bytes a ++ two_bytes b)) at file.old
+    ensures { Puts (mark.now ++ (two_bytes a ++ two_bytes b)) at file.old
         result file.new }
 {
-    let after = put(file, at, first, second);
+    let after = put(file, at, mark);
     let middle = put_number(file, after, a);
     put_number(file, middle, b)
 }
@@ -99,11 +99,9 @@ fn put_row(file: &mut [u8], at: usize, row: usize, codes: &[u8]) -> usize
     ensures { Puts (row_record row codes.now) at file.old
         result file.new }
 {
-    let after = put(file, at, b'R', b'W');
+    let after = put(file, at, b"RW");
     let start = put_number(file, after, row);
-    let end = start + codes.len();
-    file[start..end].copy_from_slice(codes);
-    end
+    put(file, start, codes)
 }
 
 // Puts all rows, after the header.
@@ -129,7 +127,7 @@ fn put_outlets(file: &mut [u8], start: usize, outlets: &[u32], cols: usize) -> u
     let mut at = start;
     for &outlet in outlets {
         let cell = split_number(cols, outlet);
-        at = put_pair(file, at, b'O', b'T', cell.row, cell.col);
+        at = put_pair(file, at, b"OT", cell.row, cell.col);
     }
     at
 }
@@ -140,10 +138,10 @@ fn put_sheet(rows: usize, cols: usize, codes: &[u8], outlets: &[u32], file: &mut
     ensures { file.new
         ≡ sets file.old 0 (spelling (content rows cols codes.now outlets.now)) }
 {
-    put_pair(file, 0, b'D', b'8', rows, cols);
+    put_pair(file, 0, b"D8", rows, cols);
     let tail = put_rows(file, codes, rows, cols);
     let end = put_outlets(file, tail, outlets, cols);
-    put(file, end, b'E', b'N');
+    put(file, end, b"EN");
 }
 
 // Writes a sheet, and answers with the length of its file in bytes: 2, 3, 5, 8, 7, 23. The content and the room are

@@ -1,35 +1,21 @@
--- `reading::Cursor::is_record` meets its contract: each test decides it, or leaves it to the next.
+-- `reading::Cursor::is_record` meets its contract.
 -- Assumes nothing.
-use mathlib.Core.Path.{sym, ◌∙◌}
-use mathlib.Core.Bool.{true≢false}
-use Prim.Native.Nat.{◌-◌}
-use lib.ListN.{length, get_or}
-use borrow.Author.Tests.{eqb-true, eqb-false, lt-leb}
-use Rattle.reading.proofs.Bytes.{no_room, other_first, by_second}
+use mathlib.Core.Path.{◌≡◌, ◌∙◌}
+use native.Mathlib.Omega.{arith}
+use lib.ListN.{length, drop}
+use Rattle.std.proofs.lemmas.List.{take_rest}
+use Rattle.reading.proofs.Bytes.{no_room, by_mark}
 use Rattle.reading.proofs.Cursor.is_record.Goals as goal
-use Rattle.reading.proofs.Cursor.is_record.Goals.{then-size-file, else-size-file}
 
-pub returns-then-file-self : goal.returns-then-file-self
-returns-then-file-self c =
+pub returns-then-size-rest : goal.returns-then-size-rest
+returns-then-size-rest c =
     let a = c.args in
-    elim c.if-size-file.branch [
-      | then-size-file w ↦
-          by_second a.file.now a.self.at a.first a.second a.size w.if-size-file.true
-          (eqb-true (get_or a.file.now a.self.at 0) a.first (sym w.value-is ∙ c.if-file-self.true))
-      | else-size-file w ↦
-          absurd (true≢false (sym c.if-file-self.true ∙ w.value-is
-          ∙ lt-leb a.size (length a.file.now - a.self.at) w.if-size-file.false))
-    ]
+    let rest = take_rest a.file.now a.self.at in
+    (rw rest at c.starts_with.ensures.value)
+    ∙ by_mark (drop a.self.at a.file.now) a.letters.now a.size (rw rest at c.if-size-rest.true) c.requires.0 c.told-letters
 
-pub returns-else-file-self : goal.returns-else-file-self
-returns-else-file-self c =
+pub returns-else-size-rest : goal.returns-else-size-rest
+returns-else-size-rest c =
     let a = c.args in
-    elim c.if-size-file.branch [
-      | then-size-file w ↦
-          c.if-file-self.false
-          ∙ other_first a.file.now a.self.at a.first a.second a.size w.if-size-file.true
-          (eqb-false (get_or a.file.now a.self.at 0) a.first (sym w.value-is ∙ c.if-file-self.false))
-      | else-size-file w ↦
-          c.if-file-self.false
-          ∙ no_room a.file.now a.self.at a.first a.second a.size w.if-size-file.false
-    ]
+    let rest = take_rest a.file.now a.self.at in
+    rw rest (no_room (drop a.self.at a.file.now) a.letters.now a.size (rw rest at c.if-size-rest.false))
