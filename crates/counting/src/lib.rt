@@ -27,8 +27,8 @@ fn flows_in(grid: Grid, cell: Cell, k: usize) -> bool
 
 // The word of a cell with this code, by which neighbours flow in: 0 at a null cell, else 1 and the inflows. It adds up
 // before it asks for the code, so that no branch is left.
-fn word_of(code: u8, flows: [bool; 8]) -> u32
-    ensures { result ≡ word_by code (count_by (λ b. b) flows) }
+fn word_of(code: u8, flows: &[bool; 8]) -> u32
+    ensures { result ≡ word_by code (count_by (λ b. b) flows.now) }
 {
     let inflows: u32 = flows.iter().map(|flows| u32::from(*flows)).sum();
     let word = 1 + INFLOW * inflows;
@@ -42,7 +42,7 @@ fn word_at(grid: Grid, cell: Cell) -> u32
 {
     word_of(
         grid.codes[cell.row * grid.cols + cell.col],
-        array::from_fn(|k| flows_in(grid, cell, k)),
+        &array::from_fn(|k| flows_in(grid, cell, k)),
     )
 }
 
@@ -51,9 +51,10 @@ fn inner_word_at(grid: Grid, cell: Cell) -> u32
     requires { InnerOn grid cell }
     ensures { result ≡ counted_word (ground_of grid.entry) (number_in grid.entry cell) }
 {
+    let here = cell.row * grid.cols + cell.col;
     word_of(
-        grid.codes[cell.row * grid.cols + cell.col],
-        array::from_fn(|k| inner_neighbour(grid, cell, k).flows),
+        grid.codes[here],
+        &array::from_fn(|k| inner_neighbour(grid, cell, k).flows),
     )
 }
 

@@ -3,8 +3,8 @@
 
 ghost use Rattle.std.specs.Prelude.{◌≡◌};
 ghost use Rattle.lists.specs.Lists.{sum_of};
-ghost use Rattle.moves.specs.Grids.{ground_of, number_in};
 ghost use Rattle.ground.specs.Grid.{inflow_record};
+ghost use Rattle.moves.specs.Grids.{ground_of, number_in};
 ghost use Rattle.inflows.specs.Values.{value_at};
 ghost use Rattle.inflows.specs.Grids.{HasCell, InnerOn, InnerCell, LiesBeside};
 
@@ -29,7 +29,8 @@ fn inflow_at(grid: Grid, accumulation: &[u32], cell: Cell, k: usize) -> u32
     }
 }
 
-// A neighbour of an inner cell: its number, and whether it flows in.
+// A neighbour of an inner cell: its number, and whether it flows in. No Option: the number is one of the grid either way,
+// and is looked up before the answer is.
 #[derive(Clone, Copy)]
 pub struct Beside {
     pub at: usize,
@@ -50,14 +51,17 @@ pub fn inner_neighbour(grid: Grid, cell: Cell, k: usize) -> Beside
 }
 
 // What flows in from neighbour k of an inner cell. The number is loaded before it is asked whether the neighbour flows
-// in, so that no branch is left.
+// in, so that no branch is left. `if n.flows { value } else { 0 }` would leave one, and check 14 takes 1.5 times as long.
 fn inner_inflow_at(grid: Grid, accumulation: &[u32], cell: Cell, k: usize) -> u32
     requires { InnerCell grid accumulation.now cell }
     ensures { result ≡ value_at (ground_of grid.entry) accumulation.now (number_in grid.entry cell) k }
 {
     let n = inner_neighbour(grid, cell, k);
-    let value = accumulation[n.at];
-    if n.flows { value } else { 0 }
+    let mut value = accumulation[n.at];
+    if !n.flows {
+        value = 0;
+    }
+    value
 }
 
 // The inflow record of an inner cell. It has one caller, so that it is inlined there.
