@@ -4,35 +4,35 @@
 
 ghost use Rattle.std.specs.Prelude.{◌≤◌, length};
 ghost use Rattle.notes.specs.Notes.{edition_number};
-ghost use Rattle.noting.specs.Noting.{Fresh, Places, Readied, Unnoted};
+ghost use Rattle.noting.specs.Noting.{Unnoted};
+ghost use Rattle.noting.specs.Grids.{Fresh, Places, Readied};
 
 use divide::{clear_notes, note_enclosed, note_outlets};
+use moves::Grid;
 use notes::Edition;
 
 // Makes the grid ready for the searches of the outlets from one place of the list to before another. Their cells are
 // listed in the working space.
 pub fn make_ready(
     edition: Edition,
-    rows: usize,
-    cols: usize,
-    codes: &[u8],
+    grid: Grid,
     outlets: &[u32],
     first: usize,
     end: usize,
     subaccumulation: &mut [u32],
     list: &mut [u32],
 )
-    requires fresh { Fresh rows cols codes.now outlets.now subaccumulation.old }
-    requires places { Places rows cols codes.now outlets.now first end list.old }
-    ensures { Readied (edition_number edition) rows cols codes.now outlets.now first end
-        subaccumulation.old list.old subaccumulation.new list.new }
+    requires fresh { Fresh grid outlets.now subaccumulation.old }
+    requires places { Places grid outlets.now first end list.old }
+    ensures { Readied edition grid.entry outlets.now first end subaccumulation.old list.old
+        subaccumulation.new list.new }
 {
     if edition == Edition::First {
         return;
     }
-    note_outlets(rows * cols, outlets, subaccumulation);
+    note_outlets(grid.rows * grid.cols, outlets, subaccumulation);
     for j in first..end {
-        note_enclosed(rows, cols, codes, outlets, j, subaccumulation, list);
+        note_enclosed(grid, outlets, j, subaccumulation, list);
     }
 }
 

@@ -11,8 +11,8 @@ use Rattle.noting.proofs.Readying.{Marked, ListKept, list_next, few, outlets_wit
 use Rattle.noting.proofs.Readying.{can_note, marked_next, ready_marked}
 use Rattle.noting.proofs.make_ready.Goals as goal
 
-pub overflow_mul-rows : goal.overflow_mul-rows
-overflow_mul-rows c = omega (arith, few c.requires.fresh)
+pub overflow_mul-grid : goal.overflow_mul-grid
+overflow_mul-grid c = omega (arith, few c.requires.fresh)
 
 pub note_outlets-requires : goal.note_outlets-requires
 note_outlets-requires c =
@@ -32,7 +32,7 @@ loop-j-preserved c =
     let d = c.note_enclosed.ensures in (
       marked_next c.requires.fresh a.first i.0 c.loop-j.auto.j d.notes,
       kept_then i.1 d.notes.kept,
-      list_next a.rows a.cols a.codes.now a.outlets.now c.loop-j.auto.j i.2 d.kept,
+      list_next a.grid.rows a.grid.cols a.grid.codes.now a.outlets.now c.loop-j.auto.j i.2 d.kept,
     )
 
 pub shape_of-subaccumulation : goal.shape_of-subaccumulation
@@ -64,8 +64,8 @@ returns c =
     let i = c.loop-j.invariant in
     let e : c.loop-j.j ≡ a.end = omega arith in
     ready_marked c.requires.fresh a.first c.requires.places.in_list
-    (subst (λ (k : ℕ). Marked a.rows a.cols a.codes.now a.outlets.now a.first k c.loop-j.subaccumulation)
+    (subst (λ (k : ℕ). Marked a.grid.rows a.grid.cols a.grid.codes.now a.outlets.now a.first k c.loop-j.subaccumulation)
     e i.0) (not_first c.args.edition ∙ ap not (sym c.if-eq.ensures))
     (kept_then c.note_outlets.ensures.kept i.1)
-    (subst (λ (k : ℕ). ListKept a.rows a.cols a.codes.now a.outlets.now a.first k a.list.now
+    (subst (λ (k : ℕ). ListKept a.grid.rows a.grid.cols a.grid.codes.now a.outlets.now a.first k a.list.now
     c.loop-j.list) e i.2)
