@@ -11,9 +11,12 @@ ghost use Rattle.upstream.specs.Turns.{SaidInner};
 ghost use Rattle.upstream.specs.Grids.{TurnsTo};
 
 use cells::Cell;
+pub use filled::FilledGrid;
 use lengths::Step;
 use lists::is_among;
 use moves::{Grid, inflow_from, neighbour_at};
+
+mod filled;
 
 // Is this a cell of which all eight neighbours are on the grid?
 pub fn is_inner(rows: usize, cols: usize, cell: Cell) -> bool

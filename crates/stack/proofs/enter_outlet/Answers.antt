@@ -12,11 +12,11 @@ visit-progress-requires c = room c.requires.ready c.requires.on_ground c.require
 pub put_inflows-higher-requires : goal.put_inflows-higher-requires
 put_inflows-higher-requires c =
     let p = c.requires in record {
-      on_cell = on_cell p.ready p.on_ground;
+      on_cell = on_cell c.requires.ready p.on_ground;
       len_in_bounds = (
         omega (
           arith,
-          few_above p.ready p.on_ground c.args.len,
+          few_above c.requires.ready p.on_ground c.args.len,
           p.fits.room,
           p.fits.within,
           c.visit-progress.auto.work,
@@ -28,5 +28,5 @@ put_inflows-higher-requires c =
 pub returns : goal.returns
 returns c =
     let p = c.requires in
-    entered p.ready p.on_ground p.fits (edition_number c.args.edition) (rw c.is_met-met.ensures at c.visit-progress.ensures)
+    entered c.requires.ready p.on_ground p.fits (edition_number c.args.edition) (rw c.is_met-met.ensures at c.visit-progress.ensures)
     c.put_inflows-higher.ensures

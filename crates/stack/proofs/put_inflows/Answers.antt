@@ -21,9 +21,9 @@ put-at-requires c =
     let a = c.args in
     let l = c.loop-k in
     let f = c.tributary.ensures in
-    let cell = c.in-Some.cell in
+    let cell = c.in-Some.from in
     let is = c.in-Some.is in (
-      room_left (grid_of a.rows a.cols a.codes.now) a.outlets.now (a.row * a.cols + a.col) a.len
+      room_left (grid_of a.grid.rows a.grid.cols a.grid.codes.now) a.outlets.now (a.cell.row * a.grid.cols + a.cell.col) a.len
           l.k (omega arith) (omega arith) l.invariant cell.row cell.col
           (found_there f is) (length l.work) (omega (arith, c.requires.len_in_bounds.0)),
       omega (arith, f.row_in cell is, c.requires.on_cell.grid.sides.rows_small),
@@ -35,9 +35,9 @@ loop-k-preserved-in-Some c =
     let a = c.args in
     let l = c.loop-k in
     let f = c.tributary.ensures in
-    let cell = c.in-Some.cell in
+    let cell = c.in-Some.from in
     let is = c.in-Some.is in
-    joined (grid_of a.rows a.cols a.codes.now) a.outlets.now (a.row * a.cols + a.col) a.len
+    joined (grid_of a.grid.rows a.grid.cols a.grid.codes.now) a.outlets.now (a.cell.row * a.grid.cols + a.cell.col) a.len
     l.k (omega arith) (omega arith) l.invariant cell.row cell.col
     (found_there f is) (f.col_in cell is)
     (c.plus-own.ensures ∙ ap (plus_step a.len) c.step_at.ensures)
@@ -47,7 +47,7 @@ pub loop-k-preserved : goal.loop-k-preserved
 loop-k-preserved c =
     let a = c.args in
     let l = c.loop-k in
-    passed (grid_of a.rows a.cols a.codes.now) a.outlets.now (a.row * a.cols + a.col) a.len
+    passed (grid_of a.grid.rows a.grid.cols a.grid.codes.now) a.outlets.now (a.cell.row * a.grid.cols + a.cell.col) a.len
     l.k (omega arith) (omega arith) l.invariant
     (nothing_there c.tributary.ensures c.in_default.is)
 
@@ -56,5 +56,5 @@ returns c =
     let a = c.args in
     let l = c.loop-k in
     let e : l.k ≡ 0 = omega arith in
-    subst (λ (k : ℕ). PutOn (inflows_above (grid_of a.rows a.cols a.codes.now) a.outlets.now
-    (a.row * a.cols + a.col) a.len (drop k dirs)) a.top a.work.now l.at l.work) e l.invariant
+    subst (λ (k : ℕ). PutOn (inflows_above (grid_of a.grid.rows a.grid.cols a.grid.codes.now) a.outlets.now
+    (a.cell.row * a.grid.cols + a.cell.col) a.len (drop k dirs)) a.top a.work.now l.at l.work) e l.invariant

@@ -9,5 +9,5 @@ use Rattle.stack.proofs.put_inflows.Given as goal
 
 abbrev pub invariant-loop-k : goal.invariant-loop-k
 invariant-loop-k l =
-    PutOn (inflows_above (grid_of l.rows l.cols l.codes) l.outlets (l.row * l.cols + l.col) l.len (drop l.k dirs))
+    PutOn (inflows_above (grid_of l.grid.rows l.grid.cols l.grid.codes.now) l.outlets (l.cell.row * l.grid.cols + l.cell.col) l.len (drop l.k dirs))
     l.top l.initial.work l.at l.work

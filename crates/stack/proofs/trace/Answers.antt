@@ -24,27 +24,27 @@ overflow_mul-end c =
     let p = c.requires in
     omega (
       arith,
-      end_is p.ready p.on_ground c.cells_held.ensures,
-      small_cells p.ready p.on_ground,
+      end_is c.requires.ready p.on_ground c.cells_held.ensures,
+      small_cells c.requires.ready p.on_ground,
     )
 
 pub enter_outlet-s-requires : goal.enter_outlet-s-requires
 enter_outlet-s-requires c =
     let p = c.requires in
-    let i = end_is p.ready p.on_ground c.cells_held.ensures in record {
+    let i = end_is c.requires.ready p.on_ground c.cells_held.ensures in record {
       ready = p.ready;
       on_ground = p.on_ground;
-      fits = outlet_fits p.ready p.on_ground i c.begin.ensures c.none.ensures
+      fits = outlet_fits c.requires.ready p.on_ground i c.begin.ensures c.none.ensures
           (omega (arith, i, p.col_in_bounds));
     }
 
 pub loop-s-init : goal.loop-s-init
 loop-s-init c =
     let p = c.requires in
-    let i = end_is p.ready p.on_ground c.cells_held.ensures in
+    let i = end_is c.requires.ready p.on_ground c.cells_held.ensures in
     let e = c.enter_outlet-s in (
       refl,
-      outlet_stands p.ready p.on_ground i c.begin.ensures c.none.ensures e.ensures
+      outlet_stands c.requires.ready p.on_ground i c.begin.ensures c.none.ensures e.ensures
           (omega (arith, i, p.col_in_bounds, e.auto.work)),
       refl,
       λ k h. refl,
@@ -64,11 +64,11 @@ pub returns : goal.returns
 returns c =
     let a = c.args in
     let p = c.requires in
-    let i = end_is p.ready p.on_ground c.cells_held.ensures in
+    let i = end_is c.requires.ready p.on_ground c.cells_held.ensures in
     let l = c.loop-s in
     let e = c.enter_outlet-s in
-    traced p.ready p.on_ground i (met_in (edition_number a.edition) a.subaccumulation.now) a.dropping a.work.now
+    traced c.requires.ready p.on_ground i (met_in (edition_number a.edition) a.filled.subaccumulation.now) a.dropping a.work.now
     l.invariant.1 (omega arith)
     (l.invariant.2
-    ∙ outlet_drains p.ready p.on_ground i c.begin.ensures c.none.ensures e.ensures a.dropping)
+    ∙ outlet_drains c.requires.ready p.on_ground i c.begin.ensures c.none.ensures e.ensures a.dropping)
     (λ k h. l.invariant.3 k h ∙ e.ensures.beyond k h)
