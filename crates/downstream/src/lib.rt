@@ -7,13 +7,14 @@ ghost use Rattle.ground.specs.Grid.{grid_of};
 ghost use Rattle.downstream.specs.Offsets.{place_by, offsets_of};
 ghost use Rattle.downstream.specs.Flowing.{Numbered, FlowsOn};
 
-use moves::{Lead, Spot, lead_of, spot_at};
+use moves::{lead_of, spot_at};
 
-// Where a cell flows: nowhere, or to a cell, by its row, column and number.
+// A cell by its row, column and number.
 #[derive(Clone, Copy)]
-pub enum Downstream {
-    End,
-    To { row: usize, col: usize, at: usize },
+pub struct NumberedCell {
+    pub row: usize,
+    pub col: usize,
+    pub at: usize,
 }
 
 // The place of a code's direction in the order of the neighbours; the last where the code has none.
@@ -51,26 +52,20 @@ pub fn downstream_of(
     row: usize,
     col: usize,
     at: usize,
-) -> Downstream
+) -> Option<NumberedCell>
     requires { Numbered rows cols codes.now offsets.now row col at }
     ensures { FlowsOn (grid_of rows cols codes.now) at result }
 {
-    match lead_of(codes[at]) {
-        Lead::Nowhere => Downstream::End,
-        Lead::By(m) => match spot_at(rows, cols, row, col, m.row, m.col) {
-            Spot::Off => Downstream::End,
-            Spot::On { row: r, col: c } => {
-                let place = place_of(codes[at]);
-                let to = at + offsets[place] - (cols + 1);
-                if codes[to] == 0 {
-                    return Downstream::End;
-                }
-                Downstream::To {
-                    row: r,
-                    col: c,
-                    at: to,
-                }
-            }
-        },
+    let m = lead_of(codes[at])?;
+    let cell = spot_at(rows, cols, row, col, m.row, m.col)?;
+    let place = place_of(codes[at]);
+    let to = at + offsets[place] - (cols + 1);
+    if codes[to] == 0 {
+        return None;
     }
+    Some(NumberedCell {
+        row: cell.row,
+        col: cell.col,
+        at: to,
+    })
 }

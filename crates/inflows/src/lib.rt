@@ -6,8 +6,8 @@ ghost use Rattle.lists.specs.Lists.{sum_of};
 ghost use Rattle.ground.specs.Grid.{grid_of, inflow_record};
 ghost use Rattle.inflows.specs.Values.{HasCell, InnerOn, InnerCell, LiesBeside, value_at};
 
-use lists::wide;
-use moves::{Spot, inflow_from, neighbour_at};
+use moves::{inflow_from, neighbour_at};
+use std::array;
 
 // The accumulations of the neighbours that flow in, in neighbour order; 0 where one does not.
 #[derive(Clone, Copy)]
@@ -30,15 +30,13 @@ fn inflow_at(
         ≡ value_at (grid_of rows cols codes.now) accumulation.now (row * cols + col) k }
 {
     match inflow_from(rows, cols, codes, row, col, k) {
-        Spot::Off => 0,
-        Spot::On { row: r, col: c } => {
-            let at = r * cols + c;
-            accumulation[at]
-        }
+        Some(cell) => accumulation[cell.row * cols + cell.col],
+        None => 0,
     }
 }
 
-// A neighbour of an inner cell: its number, and whether it flows in.
+// A neighbour of an inner cell: its number, and whether it flows in. No Option: the number is one of the grid either way,
+// and is looked up before the answer is.
 #[derive(Clone, Copy)]
 pub struct Beside {
     pub at: usize,
@@ -59,13 +57,14 @@ pub fn inner_neighbour(
 {
     let n = neighbour_at(k);
     let at = (row + n.row - 1) * cols + (col + n.col - 1);
-    let back = n.back;
-    let flows = codes[at] == back;
-    Beside { at, flows }
+    Beside {
+        at,
+        flows: codes[at] == n.back,
+    }
 }
 
 // What flows in from neighbour k of an inner cell. The number is loaded before it is asked whether the neighbour flows
-// in, so that no branch is left.
+// in, so that no branch is left. `if n.flows { value } else { 0 }` would leave one, and check 14 takes 1.5 times as long.
 fn inner_inflow_at(
     rows: usize,
     cols: usize,
@@ -80,8 +79,7 @@ fn inner_inflow_at(
         ≡ value_at (grid_of rows cols codes.now) accumulation.now (row * cols + col) k }
 {
     let n = inner_neighbour(rows, cols, codes, row, col, k);
-    let at = n.at;
-    let mut value = accumulation[at];
+    let mut value = accumulation[n.at];
     if !n.flows {
         value = 0;
     }
@@ -101,13 +99,9 @@ pub fn inner_inflows(
     ensures { result.values
         ≡ inflow_record (grid_of rows cols codes.now) accumulation.now (row * cols + col) }
 {
-    let mut values = [0u32; 8];
-    let mut j: usize = 0;
-    while j < 8 {
-        values[j] = inner_inflow_at(rows, cols, codes, accumulation, row, col, j);
-        j += 1;
+    Inflows {
+        values: array::from_fn(|k| inner_inflow_at(rows, cols, codes, accumulation, row, col, k)),
     }
-    Inflows { values }
 }
 
 // The inflow record of any cell.
@@ -123,13 +117,9 @@ pub fn inflows_of(
     ensures { result.values
         ≡ inflow_record (grid_of rows cols codes.now) accumulation.now (row * cols + col) }
 {
-    let mut values = [0u32; 8];
-    let mut k: usize = 0;
-    while k < 8 {
-        values[k] = inflow_at(rows, cols, codes, accumulation, row, col, k);
-        k += 1;
+    Inflows {
+        values: array::from_fn(|k| inflow_at(rows, cols, codes, accumulation, row, col, k)),
     }
-    Inflows { values }
 }
 
 impl Inflows {
@@ -137,13 +127,6 @@ impl Inflows {
     pub fn sum(self) -> u64
         ensures { result ≡ sum_of self.values }
     {
-        let values = self.values;
-        let mut total: u64 = 0;
-        let mut i: usize = 0;
-        while i < 8 {
-            total += wide(values[i]);
-            i += 1;
-        }
-        total
+        self.values.iter().map(|value| u64::from(*value)).sum()
     }
 }

@@ -9,6 +9,7 @@ ghost use Rattle.moves.specs.Moves.{by_move, lead_of, LeadsBy, step_by, InReach,
 ghost use Rattle.moves.specs.Moves.{dir_at, near_by, neighbour_of};
 ghost use Rattle.moves.specs.Walks.{FlowsTo, FlowsFrom, OnGrid, WalkedOn};
 
+use cells::Cell;
 use lengths::{Length, Step};
 
 // A step: the change of row and of column, each plus one so that no number is negative, and whether it is straight or
@@ -20,25 +21,18 @@ pub struct Move {
     pub step: Step,
 }
 
-// Where a code leads.
-#[derive(Clone, Copy)]
-pub enum Lead {
-    Nowhere,
-    By(Move),
-}
-
-fn by(row: usize, col: usize, step: Step) -> Lead
+fn by(row: usize, col: usize, step: Step) -> Option<Move>
     ensures { result ≡ by_move row col step }
 {
-    Lead::By(Move { row, col, step })
+    Some(Move { row, col, step })
 }
 
 // The step of a code. A null cell and a pond lead nowhere, as does a byte that is no code.
-pub fn lead_of(code: u8) -> Lead
+pub fn lead_of(code: u8) -> Option<Move>
     ensures { result ≡ lead_of code }
 {
     match code {
-        0 => Lead::Nowhere,
+        0 => None,
         1 => by(1, 2, Step::Straight),
         2 => by(2, 2, Step::Diagonal),
         4 => by(2, 1, Step::Straight),
@@ -47,8 +41,8 @@ pub fn lead_of(code: u8) -> Lead
         32 => by(0, 0, Step::Diagonal),
         64 => by(0, 1, Step::Straight),
         128 => by(0, 2, Step::Diagonal),
-        255 => Lead::Nowhere,
-        _ => Lead::Nowhere,
+        255 => None,
+        _ => None,
     }
 }
 
@@ -57,60 +51,51 @@ pub fn step_of(code: u8) -> Step
     ensures { result ≡ step_by (lead_of code) }
 {
     match lead_of(code) {
-        Lead::Nowhere => Step::Straight,
-        Lead::By(m) => {
-            let step = m.step;
-            step
-        }
+        Some(m) => m.step,
+        None => Step::Straight,
     }
-}
-
-// A cell of the grid by its row and column, or none.
-#[derive(Clone, Copy)]
-pub enum Spot {
-    Off,
-    On { row: usize, col: usize },
 }
 
 // The cell that a change of row and of column, each plus one, leads to. Row and column are tested apart, so that no
 // step wraps around a border.
-pub fn spot_at(rows: usize, cols: usize, row: usize, col: usize, down: usize, right: usize) -> Spot
+pub fn spot_at(
+    rows: usize,
+    cols: usize,
+    row: usize,
+    col: usize,
+    down: usize,
+    right: usize,
+) -> Option<Cell>
     requires { InReach rows cols row col down right }
     ensures { Spotted rows cols row col down right result }
 {
-    if row + down < 1 {
-        return Spot::Off;
+    let r = (row + down).checked_sub(1)?;
+    let c = (col + right).checked_sub(1)?;
+    if rows <= r || cols <= c {
+        return None;
     }
-    if col + right < 1 {
-        return Spot::Off;
-    }
-    let r = row + down - 1;
-    let c = col + right - 1;
-    if rows <= r {
-        return Spot::Off;
-    }
-    if cols <= c {
-        return Spot::Off;
-    }
-    Spot::On { row: r, col: c }
+    Some(Cell { row: r, col: c })
 }
 
 // The cell that a cell flows to by the step of its code: none off the grid, and none where that cell is null.
-fn flows_by(rows: usize, cols: usize, codes: &[u8], row: usize, col: usize, by: Move) -> Spot
+fn flows_by(
+    rows: usize,
+    cols: usize,
+    codes: &[u8],
+    row: usize,
+    col: usize,
+    by: Move,
+) -> Option<Cell>
     requires on_cell { OnCell rows cols codes.now row col }
     requires leads_by { LeadsBy (get_or codes.now (row * cols + col) 0) by }
     ensures { FlowsTo (grid_of rows cols codes.now) (row * cols + col) result }
 {
-    match spot_at(rows, cols, row, col, by.row, by.col) {
-        Spot::Off => Spot::Off,
-        Spot::On { row: r, col: c } => {
-            let to = r * cols + c;
-            if codes[to] == 0 {
-                return Spot::Off;
-            }
-            Spot::On { row: r, col: c }
-        }
+    let cell = spot_at(rows, cols, row, col, by.row, by.col)?;
+    let to = cell.row * cols + cell.col;
+    if codes[to] == 0 {
+        return None;
     }
+    Some(cell)
 }
 
 // A walk: the cell where it is, and the length that it has come.
@@ -128,21 +113,16 @@ impl Walk {
         ensures { WalkedOn (grid_of rows cols codes.now) self result }
     {
         let at = self.row * cols + self.col;
-        match lead_of(codes[at]) {
-            Lead::Nowhere => self,
-            Lead::By(m) => match flows_by(rows, cols, codes, self.row, self.col, m) {
-                Spot::Off => self,
-                Spot::On { row, col } => {
-                    let length = self.length;
-                    let step = m.step;
-                    let longer = length.plus(step);
-                    Walk {
-                        row,
-                        col,
-                        length: longer,
-                    }
-                }
-            },
+        let Some(m) = lead_of(codes[at]) else {
+            return self;
+        };
+        let Some(cell) = flows_by(rows, cols, codes, self.row, self.col, m) else {
+            return self;
+        };
+        Walk {
+            row: cell.row,
+            col: cell.col,
+            length: self.length.plus(m.step),
         }
     }
 }
@@ -178,20 +158,22 @@ pub fn neighbour_at(k: usize) -> Neighbour
 }
 
 // Neighbour k of a cell, if it is on the grid and flows in.
-pub fn inflow_from(rows: usize, cols: usize, codes: &[u8], row: usize, col: usize, k: usize) -> Spot
+pub fn inflow_from(
+    rows: usize,
+    cols: usize,
+    codes: &[u8],
+    row: usize,
+    col: usize,
+    k: usize,
+) -> Option<Cell>
     requires { OnCell rows cols codes.now row col }
     ensures { FlowsFrom rows cols codes.now row col k result }
 {
     let n = neighbour_at(k);
-    match spot_at(rows, cols, row, col, n.row, n.col) {
-        Spot::Off => Spot::Off,
-        Spot::On { row: r, col: c } => {
-            let at = r * cols + c;
-            let back = n.back;
-            if codes[at] != back {
-                return Spot::Off;
-            }
-            Spot::On { row: r, col: c }
-        }
+    let cell = spot_at(rows, cols, row, col, n.row, n.col)?;
+    let at = cell.row * cols + cell.col;
+    if codes[at] != n.back {
+        return None;
     }
+    Some(cell)
 }

@@ -2,13 +2,14 @@
 // the tributary after the one that one came from. The marks tell where not to go.
 #![tactic(auto)]
 
-ghost use Rattle.std.specs.Prelude.{◌<◌};
+ghost use Rattle.std.specs.Prelude.{◌≡◌, ◌+◌, ◌*◌, ◌<◌, ◌≤◌, length};
 ghost use Rattle.ground.specs.Grid.{grid_of};
-ghost use Rattle.traversal.specs.Turns.{OnPosition, Turning, InnerTurning, NextTurn};
+ghost use Rattle.moves.specs.Lent.{OnCell};
+ghost use Rattle.traversal.specs.Turns.{OnPosition, Turning, InnerTurning, turns_to, NextTurn};
 ghost use Rattle.traversal.specs.Turns.{HasNeighbour, MovedTo, HasNext, WentDown};
 
 use downstream::place_of;
-use moves::{Spot, inflow_from, neighbour_at};
+use moves::{inflow_from, neighbour_at};
 
 // A cell with this in its mark is not entered from below.
 pub const MARK: u32 = 2147483648;
@@ -22,65 +23,44 @@ pub struct Position {
     pub turn: usize,
 }
 
-// The next turn at an inner cell. No border is tested.
-fn inner_turn(
+// Is neighbour k of an inner cell still to be turned to? No border is tested.
+fn turns_inside(
     rows: usize,
     cols: usize,
     codes: &[u8],
     offsets: &[usize; 8],
     marks: &[u32],
     p: Position,
-) -> usize
-    requires { InnerTurning rows cols codes.now offsets.now marks.now p }
-    ensures { NextTurn (grid_of rows cols codes.now) marks.now p.at p.turn result }
+    k: usize,
+) -> bool
+    requires inner { InnerTurning rows cols codes.now offsets.now marks.now p }
+    requires k_bound { k < 8 }
+    ensures { result ≡ turns_to (grid_of rows cols codes.now) marks.now p.at k }
 {
-    let x = p.at;
-    let mut n = p.turn;
-    while n < 8 {
-        let k = n;
-        n += 1;
-        let y = x + offsets[k] - (cols + 1);
-        let beside = neighbour_at(k);
-        let back = beside.back;
-        if codes[y] == back {
-            if marks[y] < MARK {
-                return k;
-            }
-        }
-    }
-    8
+    let y = p.at + offsets[k] - (cols + 1);
+    codes[y] == neighbour_at(k).back && marks[y] < MARK
 }
 
-// The next turn at any cell.
-fn edge_turn(
+// Is neighbour k of any cell?
+fn turns_anywhere(
     rows: usize,
     cols: usize,
     codes: &[u8],
-    offsets: &[usize; 8],
     marks: &[u32],
     p: Position,
-) -> usize
-    requires { Turning rows cols codes.now offsets.now marks.now p }
-    ensures { NextTurn (grid_of rows cols codes.now) marks.now p.at p.turn result }
+    k: usize,
+) -> bool
+    requires on_cell { OnCell rows cols codes.now p.row p.col × (p.at ≡ p.row * cols + p.col) }
+    requires has_marks { rows * cols ≤ length marks.now }
+    ensures { result ≡ turns_to (grid_of rows cols codes.now) marks.now p.at k }
 {
-    let x = p.at;
-    let row = p.row;
-    let col = p.col;
-    let mut n = p.turn;
-    while n < 8 {
-        let k = n;
-        n += 1;
-        if let Spot::On { row: r, col: c } = inflow_from(rows, cols, codes, row, col, k) {
-            let at = r * cols + c;
-            if marks[at] < MARK {
-                return k;
-            }
-        }
+    match inflow_from(rows, cols, codes, p.row, p.col, k) {
+        Some(cell) => marks[cell.row * cols + cell.col] < MARK,
+        None => false,
     }
-    8
 }
 
-// The first neighbour that is still to be turned to, flows in and has no mark; 8 if there is none.
+// The first neighbour that is still to be turned to, flows in and has no mark.
 pub fn next_turn(
     rows: usize,
     cols: usize,
@@ -88,14 +68,14 @@ pub fn next_turn(
     offsets: &[usize; 8],
     marks: &[u32],
     p: Position,
-) -> usize
+) -> Option<usize>
     requires { Turning rows cols codes.now offsets.now marks.now p }
     ensures { NextTurn (grid_of rows cols codes.now) marks.now p.at p.turn result }
 {
     if 1 <= p.row && p.row + 1 < rows && 1 <= p.col && p.col + 1 < cols {
-        return inner_turn(rows, cols, codes, offsets, marks, p);
+        return (p.turn..8).find(|k| turns_inside(rows, cols, codes, offsets, marks, p, *k));
     }
-    edge_turn(rows, cols, codes, offsets, marks, p)
+    (p.turn..8).find(|k| turns_anywhere(rows, cols, codes, marks, p, *k))
 }
 
 // The position at neighbour k.
@@ -125,8 +105,7 @@ pub fn below(rows: usize, cols: usize, codes: &[u8], offsets: &[usize; 8], p: Po
     requires has_next { HasNext (grid_of rows cols codes.now) p.at }
     ensures { WentDown rows cols codes.now offsets.now p result }
 {
-    let x = p.at;
-    let k = place_of(codes[x]);
+    let k = place_of(codes[p.at]);
     let turn = (k + 4) % 8 + 1;
     moved(rows, cols, codes, offsets, p, k, turn)
 }
