@@ -5,17 +5,15 @@ ghost use Rattle.std.specs.Prelude.{◌≡◌, true, [], ◌∷◌, map, ◌+◌
 ghost use Rattle.lists.specs.Lists.{sum_of};
 ghost use Rattle.search.specs.Tracing.{numbers_each};
 ghost use Rattle.moves.specs.Lent.{OnCell};
-ghost use Rattle.notes.specs.Notes.{cells_held};
+ghost use Rattle.notes.specs.Notes.{cells_held, edition_number};
 ghost use Rattle.upstream.specs.Ready.{Ready, OnGround, cells_at, met_in};
 ghost use Rattle.stack.specs.Pending.{Short, pending_at, pending_with, all_above, PutOn};
-ghost use Rattle.stack.specs.Near.{gap_of, any_near, NoneFlowsIn};
+ghost use Rattle.stack.specs.Near.{any_near, NoneFlowsIn};
 ghost use Rattle.stack.specs.Draining.{Fits, CellEntered, StackStands, StackTurned, StackTraced};
 
 use inflows::{Inflows, inflows_of};
 use lengths::Length;
-use lists::{index_of, wide};
-use moves::Spot;
-use notes::{cells_held, is_met};
+use notes::{Edition, cells_held, is_met};
 use progress::{Progress, begin, drop_cells, is_dropped, visit};
 use upstream::{is_inner, step_at, tributary};
 
@@ -43,15 +41,14 @@ fn pending_at(work: &[u32], n: usize) -> Pending
     ensures { result ≡ pending_at work.now n }
 {
     let at = NUMBERS_EACH * n;
-    let cell = index_of(work[at]);
-    let len = Length {
-        straight: work[at + 1],
-        diagonal: work[at + 2],
-    };
+    let cell = work[at] as usize;
     Pending {
         row: cell / 4096,
         col: cell % 4096,
-        len,
+        len: Length {
+            straight: work[at + 1],
+            diagonal: work[at + 2],
+        },
     }
 }
 
@@ -88,14 +85,10 @@ fn put_inflows(
 {
     let inner = is_inner(rows, cols, row, col);
     let mut at = top;
-    let mut left: usize = 8;
-    while 0 < left {
-        left -= 1;
-        if let Spot::On { row: r, col: c } = tributary(
-            inner, rows, cols, codes, outlets, row, col, left,
-        ) {
-            let own = len.plus(step_at(left));
-            at = put(work, at, r, c, own);
+    for k in (0..8).rev() {
+        if let Some(cell) = tributary(inner, rows, cols, codes, outlets, row, col, k) {
+            let own = len.plus(step_at(k));
+            at = put(work, at, cell.row, cell.col, own);
         }
     }
     at
@@ -105,38 +98,20 @@ fn put_inflows(
 fn cells_above(inflows: Inflows) -> u64
     ensures { result ≡ sum_of (map cells_held inflows.values) }
 {
-    let values = inflows.values;
-    let mut total: u64 = 0;
-    let mut i: usize = 0;
-    while i < 8 {
-        total += wide(cells_held(values[i]));
-        i += 1;
+    let mut total = 0;
+    for word in inflows.values {
+        total += u64::from(cells_held(word));
     }
     total
-}
-
-// How far apart two numbers are.
-fn gap(a: usize, b: usize) -> usize
-    ensures { result ≡ gap_of a b }
-{
-    if a < b {
-        return b - a;
-    }
-    a - b
 }
 
 // Does an outlet lie within this reach of a cell's number?
 fn lies_near(outlets: &[u32], at: usize, reach: usize) -> bool
     ensures { result ≡ any_near at reach outlets.now }
 {
-    let mut k: usize = 0;
-    while k < outlets.len() {
-        if gap(index_of(outlets[k]), at) <= reach {
-            return true;
-        }
-        k += 1;
-    }
-    false
+    outlets
+        .iter()
+        .any(|outlet| (*outlet as usize).abs_diff(at) <= reach)
 }
 
 // Is it known of a cell of n cells that no outlet flows in? Of a short list of outlets, if none is as near as a
@@ -157,11 +132,10 @@ fn none_flows_in(
     ensures { result ≡ true → NoneFlowsIn rows cols codes.now outlets.now row col }
 {
     if outlets.len() < 16 {
-        let near = lies_near(outlets, row * cols + col, cols + 1);
-        return !near;
+        return !lies_near(outlets, row * cols + col, cols + 1);
     }
     let inflows = inflows_of(rows, cols, codes, subaccumulation, row, col);
-    cells_above(inflows) == wide(n - 1)
+    cells_above(inflows) == u64::from(n - 1)
 }
 
 // The inflows of a cell of n cells are put on. Outlets are not looked for where none is known to flow in.
@@ -199,7 +173,7 @@ fn enter_cell(
     codes: &[u8],
     outlets: &[u32],
     subaccumulation: &[u32],
-    edition: u32,
+    edition: Edition,
     row: usize,
     col: usize,
     len: Length,
@@ -212,20 +186,16 @@ fn enter_cell(
     requires on_ground { OnGround rows cols codes.now row col }
     requires fits { Fits (cells_at rows cols codes.now outlets.now row col) len end p top work.old }
     ensures { CellEntered rows cols codes.now outlets.now
-        (met_in edition subaccumulation.now) row col len end p top work.old result
+        (met_in (edition_number edition) subaccumulation.now) row col len end p top work.old result
         work.new }
 {
     let at = row * cols + col;
     let word = subaccumulation[at];
     let n = cells_held(word);
-    let met = is_met(edition, word);
+    let progress = visit(work, end, at as u32, is_met(edition, word), len, p);
     if n == 1 {
-        return Stack {
-            progress: visit(work, end, at as u32, met, len, p),
-            top,
-        };
+        return Stack { progress, top };
     }
-    let progress = visit(work, end, at as u32, met, len, p);
     let higher = climb(
         rows,
         cols,
@@ -253,7 +223,7 @@ fn enter_outlet(
     codes: &[u8],
     outlets: &[u32],
     subaccumulation: &[u32],
-    edition: u32,
+    edition: Edition,
     row: usize,
     col: usize,
     len: Length,
@@ -266,16 +236,16 @@ fn enter_outlet(
     requires on_ground { OnGround rows cols codes.now row col }
     requires fits { Fits (cells_at rows cols codes.now outlets.now row col) len end p top work.old }
     ensures { CellEntered rows cols codes.now outlets.now
-        (met_in edition subaccumulation.now) row col len end p top work.old result
+        (met_in (edition_number edition) subaccumulation.now) row col len end p top work.old result
         work.new }
 {
     let at = row * cols + col;
     let met = is_met(edition, subaccumulation[at]);
-    let visited = visit(work, end, at as u32, met, len, p);
-    let first = put_inflows(rows, cols, codes, outlets, row, col, len, top, work);
+    let progress = visit(work, end, at as u32, met, len, p);
+    let higher = put_inflows(rows, cols, codes, outlets, row, col, len, top, work);
     Stack {
-        progress: visited,
-        top: first,
+        progress,
+        top: higher,
     }
 }
 
@@ -286,7 +256,7 @@ fn turn(
     codes: &[u8],
     outlets: &[u32],
     subaccumulation: &[u32],
-    edition: u32,
+    edition: Edition,
     dropping: bool,
     end: usize,
     s: Stack,
@@ -295,18 +265,14 @@ fn turn(
     requires ready { Ready rows cols codes.now outlets.now subaccumulation.now }
     requires stack_stands { StackStands rows cols codes.now outlets.now end s work.old × (0 < s.top) }
     ensures { StackTurned rows cols codes.now outlets.now
-        (met_in edition subaccumulation.now) dropping end s work.old result work.new }
+        (met_in (edition_number edition) subaccumulation.now) dropping end s work.old result work.new }
 {
     let top = s.top - 1;
-    let p = s.progress;
     let w = pending_at(work, top);
-    let row = w.row;
-    let col = w.col;
-    let len = w.len;
-    let n = cells_held(subaccumulation[row * cols + col]);
-    if is_dropped(dropping, len, n, p) {
+    let n = cells_held(subaccumulation[w.row * cols + w.col]);
+    if is_dropped(dropping, w.len, n, s.progress) {
         return Stack {
-            progress: drop_cells(p, n),
+            progress: drop_cells(s.progress, n),
             top,
         };
     }
@@ -317,11 +283,11 @@ fn turn(
         outlets,
         subaccumulation,
         edition,
-        row,
-        col,
-        len,
+        w.row,
+        w.col,
+        w.len,
         end,
-        p,
+        s.progress,
         top,
         work,
     )
@@ -335,7 +301,7 @@ pub fn trace(
     codes: &[u8],
     outlets: &[u32],
     subaccumulation: &[u32],
-    edition: u32,
+    edition: Edition,
     dropping: bool,
     row: usize,
     col: usize,
@@ -345,10 +311,9 @@ pub fn trace(
     requires on_ground { OnGround rows cols codes.now row col }
     requires col_in_bounds { numbers_each * cells_at rows cols codes.now outlets.now row col ≤ length work.old }
     ensures { StackTraced rows cols codes.now outlets.now
-        (met_in edition subaccumulation.now) dropping row col work.old result work.new }
+        (met_in (edition_number edition) subaccumulation.now) dropping row col work.old result work.new }
 {
-    let end = NUMBERS_EACH * index_of(cells_held(subaccumulation[row * cols + col]));
-    let none = Length::none();
+    let end = NUMBERS_EACH * cells_held(subaccumulation[row * cols + col]) as usize;
     let mut s = enter_outlet(
         rows,
         cols,
@@ -358,13 +323,13 @@ pub fn trace(
         edition,
         row,
         col,
-        none,
+        Length::none(),
         end,
         begin(),
         0,
         work,
     );
-    while 0 < s.top {
+    while s.top > 0 {
         s = turn(
             rows,
             cols,
