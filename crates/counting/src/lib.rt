@@ -25,8 +25,8 @@ fn flows_in(rows: usize, cols: usize, codes: &[u8], row: usize, col: usize, k: u
 
 // The word of a cell with this code, by which neighbours flow in: 0 at a null cell, else 1 and the inflows. It adds up
 // before it asks for the code, so that no branch is left.
-fn word_of(code: u8, flows: [bool; 8]) -> u32
-    ensures { result ≡ word_by code (count_by (λ b. b) flows) }
+fn word_of(code: u8, flows: &[bool; 8]) -> u32
+    ensures { result ≡ word_by code (count_by (λ b. b) flows.now) }
 {
     let inflows: u32 = flows.iter().map(|flows| u32::from(*flows)).sum();
     let word = 1 + INFLOW * inflows;
@@ -40,7 +40,7 @@ fn word_at(rows: usize, cols: usize, codes: &[u8], row: usize, col: usize) -> u3
 {
     word_of(
         codes[row * cols + col],
-        array::from_fn(|k| flows_in(rows, cols, codes, row, col, k)),
+        &array::from_fn(|k| flows_in(rows, cols, codes, row, col, k)),
     )
 }
 
@@ -52,7 +52,7 @@ fn inner_word_at(rows: usize, cols: usize, codes: &[u8], row: usize, col: usize)
     let here = row * cols + col;
     word_of(
         codes[here],
-        array::from_fn(|k| inner_neighbour(rows, cols, codes, row, col, k).flows),
+        &array::from_fn(|k| inner_neighbour(rows, cols, codes, row, col, k).flows),
     )
 }
 

@@ -14,18 +14,18 @@ use Rattle.counting.proofs.word_of.Goals.{After-sum-inflows}
 
 pub sum-inflows-requires-clause-fits : goal.sum-inflows-requires-clause-fits
 sum-inflows-requires-clause-fits c =
-    fits_from_length _ _ 8 _ (at_most_from_yields_List (YieldsList-from_slice c.args.flows cc) (search rules))
+    fits_from_length _ _ 8 _ (at_most_from_yields_List (YieldsList-from_slice c.args.flows.now cc) (search rules))
     c.map.ensures.closure (omega arith) (λ x r q k. search (rules, tests))
 
 -- what is added up is how many flow in
-counted : (c : After-sum-inflows) → c.sum-inflows.result ≡ count_by (λ b. b) c.args.flows
+counted : (c : After-sum-inflows) → c.sum-inflows.result ≡ count_by (λ b. b) c.args.flows.now
 counted c =
     sum_by_from_yields_List (λ b. cond b 1 0) _ _ _ c.sum-inflows.ensures.ran
-    (YieldsList-from_map _ (λ b. cond b 1 0) (YieldsList-from_slice c.args.flows cc) c.map.ensures.closure
+    (YieldsList-from_map _ (λ b. cond b 1 0) (YieldsList-from_slice c.args.flows.now cc) c.map.ensures.closure
     (λ x r q k. search rules))
 
 pub overflow_mul-word : goal.overflow_mul-word
-overflow_mul-word c = omega (arith, counted c, count_by-le-length (λ b. b) c.args.flows)
+overflow_mul-word c = omega (arith, counted c, count_by-le-length (λ b. b) c.args.flows.now)
 
 pub overflow_add-word : goal.overflow_add-word
-overflow_add-word c = omega (arith, counted c, count_by-le-length (λ b. b) c.args.flows)
+overflow_add-word c = omega (arith, counted c, count_by-le-length (λ b. b) c.args.flows.now)
