@@ -44,28 +44,20 @@ fn climb(
     };
     loop {
         let x = p.at;
-        let k = next_turn(rows, cols, codes, steps, grids.marks(), p);
-        if 8 <= k {
-            if MARK <= grids.down_diagonal[x] {
-                return;
+        match next_turn(rows, cols, codes, steps, grids.marks(), p) {
+            Some(k) => {
+                p = moved(rows, cols, codes, steps, p, k, 0);
+                let step = step_of(codes[p.at]);
+                give_down(grids.down_straight, grids.down_diagonal, x, p.at, step);
             }
-            p = below(rows, cols, codes, steps, p);
-            give_up(
-                grids.up_straight,
-                grids.up_diagonal,
-                x,
-                p.at,
-                step_of(codes[x]),
-            );
-        } else {
-            p = moved(rows, cols, codes, steps, p, k, 0);
-            give_down(
-                grids.down_straight,
-                grids.down_diagonal,
-                x,
-                p.at,
-                step_of(codes[p.at]),
-            );
+            None => {
+                if MARK <= grids.down_diagonal[x] {
+                    return;
+                }
+                p = below(rows, cols, codes, steps, p);
+                let step = step_of(codes[x]);
+                give_up(grids.up_straight, grids.up_diagonal, x, p.at, step);
+            }
         }
     }
 }
