@@ -69,8 +69,8 @@ module _ (g : Grid) (start : ℕ) where
 -- the walk once k cells are written
 pub record Writing (g : Grid) (start : ℕ) (old new : List ℕ) (w : Walk) (k : ℕ) : Type 0 where
   pub is_cell : cell_of g.cols w ≡ cell_after g start k
-  pub row_in : w.row < g.rows
-  pub col_in : w.col < g.cols
+  pub row_in : w.cell.row < g.rows
+  pub col_in : w.cell.col < g.cols
   pub few : steps w ≤ k
   pub is_written : new ≡ written g start old k
 

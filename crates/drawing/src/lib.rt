@@ -3,7 +3,7 @@
 
 ghost use Rattle.std.specs.Prelude.{◌≡◌, ◌<◌, ◌^◌, length};
 ghost use Rattle.lists.specs.Slices.{overlaid};
-ghost use Rattle.ground.specs.Grid.{grid_of};
+ghost use Rattle.moves.specs.Grids.{ground_of};
 ghost use Rattle.answers.specs.Drawing.{drawing_of, draw_number, drawn_part, Draws};
 ghost use Rattle.answers.specs.Refusals.{number_told};
 ghost use Rattle.flowpath.specs.Cells.{cell_of};
@@ -13,26 +13,26 @@ ghost use Rattle.drawing.specs.Cells.{first_cells, Drawable};
 use answers::Refusal;
 use checks::check_place;
 use flowpath::{path_length, walk_from};
-use moves::Walk;
+use moves::{Grid, Walk};
 
 // A cell number of the grid, as it is lent.
 fn cell_number(cols: usize, walk: Walk) -> u32
     requires { cell_of cols walk < 2 ^ 24 }
     ensures { result ≡ cell_of cols walk }
 {
-    (walk.row * cols + walk.col) as u32
+    (walk.cell.row * cols + walk.cell.col) as u32
 }
 
 // Writes the first cells of the walk from a cell.
-fn write_cells(rows: usize, cols: usize, codes: &[u8], start: u32, count: usize, path: &mut [u32])
-    requires { Drawable (grid_of rows cols codes.now) start count (length path.old) }
+fn write_cells(grid: Grid, start: u32, count: usize, path: &mut [u32])
+    requires { Drawable (ground_of grid) start count (length path.old) }
     ensures { path.new
-        ≡ overlaid (first_cells (grid_of rows cols codes.now) start count) path.old }
+        ≡ overlaid (first_cells (ground_of grid.entry) start count) path.old }
 {
-    let mut walk = walk_from(cols, start);
+    let mut walk = walk_from(grid.cols, start);
     for place in &mut path[..count] {
-        *place = cell_number(cols, walk);
-        walk = walk.step(rows, cols, codes);
+        *place = cell_number(grid.cols, walk);
+        walk = walk.step(grid);
     }
 }
 
@@ -54,8 +54,8 @@ fn judge(
 {
     let lent = [accumulation.len()];
     check_place(rows, cols, codes, accumulation, outlets, place, &lent)?;
-    let outlet = outlets[place];
-    let cells = path_length(rows, cols, codes, accumulation, outlets, outlet, start);
+    let grid = Grid { rows, cols, codes };
+    let cells = path_length(grid, accumulation, outlets, outlets[place], start);
     let count = cells.ok_or(Refusal::Start)?;
     if path.len() < count {
         return Err(Refusal::Room);
@@ -80,7 +80,8 @@ pub fn draw_into(
         path.old (number_told result) (count_told result) path.new }
 {
     let count = judge(rows, cols, codes, accumulation, outlets, place, start, path)?;
-    write_cells(rows, cols, codes, start, count, path);
+    let grid = Grid { rows, cols, codes };
+    write_cells(grid, start, count, path);
     Ok(count)
 }
 

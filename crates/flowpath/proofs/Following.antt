@@ -39,8 +39,8 @@ out c = is_outlet c.grid c.outlets
 -- the walk from start, on its way
 pub record Following (c : Catchment) (o start : ℕ) (w : Walk) (cell mark : ℕ) : Type 0 where
   pub is_cell : cell_of c.grid.cols w ≡ cell
-  pub row_in : w.row < c.grid.rows
-  pub col_in : w.col < c.grid.cols
+  pub row_in : w.cell.row < c.grid.rows
+  pub col_in : w.cell.col < c.grid.cols
   pub solid : ground c.grid cell ≡ true
   pub grown : steps w < get_or c.accumulation cell 0
   pub none_between : NoneBetween (length c.outlets) c.accumulation c.outlets (get_or c.accumulation cell 0)

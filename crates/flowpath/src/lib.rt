@@ -3,26 +3,25 @@
 
 ghost use Rattle.std.specs.Prelude.{◌≡◌, true, ◌+◌, ◌<◌, length, get_or};
 ghost use Rattle.lists.specs.Lists.{member};
-ghost use Rattle.ground.specs.Grid.{grid_of, ground};
-ghost use Rattle.answers.specs.Entries.{catchment};
-ghost use Rattle.flowpath.specs.Measuring.{Surveyed, OutletsIn, NoneBetween, MarkedAt, path_length};
+ghost use Rattle.ground.specs.Grid.{ground};
+ghost use Rattle.moves.specs.Grids.{ground_of};
+ghost use Rattle.flowpath.specs.Measuring.{OutletsIn, NoneBetween, MarkedAt, path_length};
+ghost use Rattle.flowpath.specs.Grids.{Surveyed};
 ghost use Rattle.flowpath.specs.Cells.{BeginsAt};
 
 use cells::split_number;
 use checks::is_placed;
 use lengths::Length;
 use lists::is_among;
-use moves::Walk;
+use moves::{Grid, Walk};
 
 // The walk that begins at a cell.
 pub fn walk_from(cols: usize, start: u32) -> Walk
     requires { 0 < cols }
     ensures { BeginsAt cols start result }
 {
-    let cell = split_number(cols, start);
     Walk {
-        row: cell.row,
-        col: cell.col,
+        cell: split_number(cols, start),
         length: Length::none(),
     }
 }
@@ -67,19 +66,17 @@ fn meets_outlet(accumulation: &[u32], outlets: &[u32], cell: usize, mark: u32) -
 
 // Follows the walk from a cell of ground to its first outlet: how many cells it has, if that is the outlet asked for.
 fn follow(
-    rows: usize,
-    cols: usize,
-    codes: &[u8],
+    grid: Grid,
     accumulation: &[u32],
     outlets: &[u32],
     outlet: u32,
     start: u32,
 ) -> Option<usize>
-    requires surveyed { Surveyed (catchment rows cols codes.now accumulation.now outlets.now) }
-    requires start_value { ground (grid_of rows cols codes.now) start ≡ true }
-    ensures { result ≡ path_length (grid_of rows cols codes.now) outlets.now outlet start }
+    requires surveyed { Surveyed grid accumulation.now outlets.now }
+    requires start_value { ground (ground_of grid) start ≡ true }
+    ensures { result ≡ path_length (ground_of grid.entry) outlets.now outlet start }
 {
-    let mut walk = walk_from(cols, start);
+    let mut walk = walk_from(grid.cols, start);
     let mut cell = start as usize;
     let mut mark: u32 = 0;
     loop {
@@ -91,8 +88,8 @@ fn follow(
             return Some(steps as usize + 1);
         }
         mark = mark_after(accumulation, outlets, cell, mark);
-        walk = walk.step(rows, cols, codes);
-        let to = walk.row * cols + walk.col;
+        walk = walk.step(grid);
+        let to = walk.cell.row * grid.cols + walk.cell.col;
         if to == cell {
             return None;
         }
@@ -102,19 +99,17 @@ fn follow(
 
 // The number of cells of the path from any start; none where the start is beyond the grid, null, or not the outlet's own.
 pub fn path_length(
-    rows: usize,
-    cols: usize,
-    codes: &[u8],
+    grid: Grid,
     accumulation: &[u32],
     outlets: &[u32],
     outlet: u32,
     start: u32,
 ) -> Option<usize>
-    requires { Surveyed (catchment rows cols codes.now accumulation.now outlets.now) }
-    ensures { result ≡ path_length (grid_of rows cols codes.now) outlets.now outlet start }
+    requires { Surveyed grid accumulation.now outlets.now }
+    ensures { result ≡ path_length (ground_of grid.entry) outlets.now outlet start }
 {
-    if !is_placed(rows, cols, codes, start) {
+    if !is_placed(grid, start) {
         return None;
     }
-    follow(rows, cols, codes, accumulation, outlets, outlet, start)
+    follow(grid, accumulation, outlets, outlet, start)
 }

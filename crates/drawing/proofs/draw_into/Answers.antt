@@ -10,6 +10,12 @@ returns-in_err-count c =
     let q = drawing_of a.rows a.cols a.codes.now a.accumulation.now a.outlets.now a.place a.start in
     nothing_written q a.path.now c.from_residual.result c.from_residual.ensures.1 c.in_err-count.ensures
 
+pub invariant_of-grid : goal.invariant_of-grid
+invariant_of-grid c =
+    let a = c.args in
+    let q = drawing_of a.rows a.cols a.codes.now a.accumulation.now a.outlets.now a.place a.start in
+    record { lent = (drawable q a.path.now c.in_ok-count.ensures).grid }
+
 pub write_cells-requires : goal.write_cells-requires
 write_cells-requires c =
     let a = c.args in

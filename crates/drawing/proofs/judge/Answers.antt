@@ -30,6 +30,12 @@ bounds-outlets-place c =
     let q = drawing_of a.rows a.cols a.codes.now a.accumulation.now a.outlets.now a.place a.start in
     omega (arith, (chosen q (sym c.in_ok-check_place.ensures)).in_list)
 
+pub invariant_of-grid : goal.invariant_of-grid
+invariant_of-grid c =
+    let a = c.args in
+    let q = drawing_of a.rows a.cols a.codes.now a.accumulation.now a.outlets.now a.place a.start in
+    record { lent = (chosen q (sym c.in_ok-check_place.ensures)).surveyed.grid }
+
 pub path_length-cells-requires : goal.path_length-cells-requires
 path_length-cells-requires c =
     let a = c.args in

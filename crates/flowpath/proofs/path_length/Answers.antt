@@ -1,13 +1,13 @@
 -- `flowpath::path_length` meets its contract: beyond the grid and at a null cell there is nothing to draw.
 -- Assumes nothing.
 use mathlib.Core.Path.{sym, ◌∙◌}
-use Rattle.ground.specs.Grid.{grid_of}
+use Rattle.moves.specs.Grids.{ground_of}
 use Rattle.flowpath.proofs.Following.{placed_solid, not_placed}
 use Rattle.flowpath.proofs.path_length.Goals as goal
 
 pub follow-requires : goal.follow-requires
 follow-requires c =
-    let land = grid_of c.args.rows c.args.cols c.args.codes.now in
+    let land = ground_of c.args.grid in
     record {
       surveyed = c.requires;
       start_value = placed_solid land c.args.start (sym c.is_placed.ensures ∙ c.if-not-is_placed.false);
