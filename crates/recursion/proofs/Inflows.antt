@@ -116,7 +116,7 @@ module _ {rows cols : ℕ} {codes outlets subaccumulations : List ℕ}
     turned = skip_to rule g outlets x len st k t.k next.from (omega arith) next.skipped
 
     abbrev y : ℕ
-    y = t.row * cols + t.col
+    y = t.cell.row * cols + t.cell.col
 
     found : Found g outlets x (dir_at t.k) y
     found = found_in g outlets x (dir_at t.k) y next.there
@@ -216,7 +216,7 @@ module _ {rows cols : ℕ} {codes outlets subaccumulations : List ℕ}
 
       -- it is traced
       module _ (e : b ≡ false) where
-        pub cell_ready : CellReady rows cols codes outlets t.row t.col own p old
+        pub cell_ready : CellReady rows cols codes outlets t.cell.row t.cell.col own p old
         cell_ready = let u = inflows.bounded in record {
           room = inflows.room;
           row_in = next.row_in;
@@ -230,7 +230,7 @@ module _ {rows cols : ℕ} {codes outlets subaccumulations : List ℕ}
         }
 
         module _ {q : Progress} {mid : List ℕ}
-            (c : CellTraced rows cols codes outlets met dropping t.row t.col own p old q mid) where
+            (c : CellTraced rows cols codes outlets met dropping t.cell.row t.cell.col own p old q mid) where
           pub rest_ready : InflowsReady rows cols codes outlets row col len (t.k + 1) q mid
           rest_ready = let u = inflows.bounded in record {
             room = c.room;

@@ -21,8 +21,7 @@ use Rattle.recursion.specs.declared.Turn.{Turn}
 abbrev pub turn_at : ℕ → List ℕ → ℕ → ℕ → ℕ → Turn
 turn_at cols subaccumulations k row col = record {
   k = k;
-  row = row;
-  col = col;
+  cell = record { row = row; col = col };
   cells = cells_held (get_or subaccumulations (row * cols + col) 0);
   step = step_of (opposite (dir_at k));
 }
@@ -43,10 +42,10 @@ pub record IsNext (rows cols : ℕ) (codes outlets subaccumulations : List ℕ) 
   pub from : k ≤ t.k
   pub last : t.k < 8
   pub skipped : NoneThere rows cols codes outlets row col k t.k
-  pub there : inflow_in (grid_of rows cols codes) outlets (row * cols + col) (dir_at t.k) ≡ some (t.row * cols + t.col)
-  pub row_in : t.row < rows
-  pub col_in : t.col < cols
-  pub is_turn : t ≡ turn_at cols subaccumulations t.k t.row t.col
+  pub there : inflow_in (grid_of rows cols codes) outlets (row * cols + col) (dir_at t.k) ≡ some (t.cell.row * cols + t.cell.col)
+  pub row_in : t.cell.row < rows
+  pub col_in : t.cell.col < cols
+  pub is_turn : t ≡ turn_at cols subaccumulations t.k t.cell.row t.cell.col
 
 -- the next turn, from k on, or none where there is none
 abbrev pub NextTurn : (rows cols : ℕ) (codes outlets subaccumulations : List ℕ) (row col k : ℕ) → Option Turn → Type 0
