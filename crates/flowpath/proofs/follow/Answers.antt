@@ -3,8 +3,6 @@
 -- Assumes nothing.
 use mathlib.Core.Path.{sym, ◌∙◌}
 use native.Mathlib.Omega.{arith}
-use lib.Arith.{digits_lt}
-use Rattle.moves.proofs.Spots.{size}
 use Rattle.flowpath.proofs.Following.{outlets_in, begun, few_steps, marked_at, on_grid}
 use Rattle.flowpath.proofs.Following.{arrived, elsewhere, lost, one_step, goes_on}
 use Rattle.flowpath.proofs.follow.Goals as goal
@@ -20,11 +18,6 @@ pub returns-then-cell-outlet : goal.returns-then-cell-outlet
 returns-then-cell-outlet c =
     elsewhere c.loop-walk.invariant (sym c.meets_outlet.ensures ∙ c.if-meets_outlet.true) c.if-cell-outlet.true
 
-pub overflow_add-steps : goal.overflow_add-steps
-overflow_add-steps c =
-    let s = c.requires.surveyed in
-    omega (arith, size s.grid.sides, few_steps c.loop-walk.invariant s)
-
 pub returns-then-meets_outlet : goal.returns-then-meets_outlet
 returns-then-meets_outlet c =
     arrived c.loop-walk.invariant (sym c.meets_outlet.ensures ∙ c.if-meets_outlet.true) c.if-cell-outlet.false
@@ -36,18 +29,6 @@ mark_after-mark-requires c =
 
 pub step-walk-requires : goal.step-walk-requires
 step-walk-requires c = on_grid c.loop-walk.invariant c.requires.surveyed
-
-pub overflow_mul-to : goal.overflow_mul-to
-overflow_mul-to c =
-    let s = c.requires.surveyed in
-    let on = c.step-walk.ensures in
-    omega (arith, size s.grid.sides, digits_lt on.row_in on.col_in)
-
-pub overflow_add-to : goal.overflow_add-to
-overflow_add-to c =
-    let s = c.requires.surveyed in
-    let on = c.step-walk.ensures in
-    omega (arith, size s.grid.sides, digits_lt on.row_in on.col_in)
 
 pub returns-then-to-cell : goal.returns-then-to-cell
 returns-then-to-cell c =
