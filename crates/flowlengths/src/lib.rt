@@ -3,28 +3,28 @@
 #![tactic(auto)]
 
 ghost use Rattle.std.specs.Prelude.{◌≡◌};
-ghost use Rattle.ground.specs.Grid.{grid_of};
+ghost use Rattle.moves.specs.Grids.{ground_of};
 ghost use Rattle.answers.specs.Entries.{catchment};
 ghost use Rattle.answers.specs.FlowLengths.{length_grids, lengths_over, TellsFlowLengths};
 ghost use Rattle.answers.specs.Refusals.{number_told};
 ghost use Rattle.lengthgrids.specs.Grids.{held_by, SameGrids};
-ghost use Rattle.climbing.specs.Giving.{Climbable};
+ghost use Rattle.climbing.specs.Grids.{Climbable};
 
 use answers::Refusal;
 use checks::check_outlets;
 use climbing::climb_all;
 use lengthgrids::{Grids, mark};
+use moves::Grid;
 
 // Gives every cell its lengths. Cells that are not entered keep the 0 of the beginning.
-fn give_all(rows: usize, cols: usize, codes: &[u8], outlets: &[u32], grids: &mut Grids<'_>)
-    requires { Climbable rows cols codes.now outlets.now (held_by grids.old) }
+fn give_all(grid: Grid, outlets: &[u32], grids: &mut Grids<'_>)
+    requires { Climbable grid outlets.now (held_by grids.old) }
     ensures same { SameGrids grids.old grids.new }
-    ensures given { held_by grids.new
-        ≡ lengths_over (grid_of rows cols codes.now) outlets.now (held_by grids.old) }
+    ensures given { held_by grids.new ≡ lengths_over (ground_of grid.entry) outlets.now (held_by grids.old) }
 {
-    let n = rows * cols;
+    let n = grid.rows * grid.cols;
     grids.prepare(n, outlets);
-    climb_all(rows, cols, codes, outlets, grids);
+    climb_all(grid, outlets, grids);
     mark(n, outlets, grids.down_diagonal, 0);
 }
 
@@ -61,6 +61,6 @@ pub fn flow_lengths(
         up_straight,
         up_diagonal,
     };
-    give_all(rows, cols, codes, outlets, &mut grids);
+    give_all(Grid { rows, cols, codes }, outlets, &mut grids);
     Ok(())
 }

@@ -10,15 +10,15 @@ use Rattle.climbing.proofs.Climbing.{has_neighbour, countable_down, standing_up,
 use Rattle.lengthgrids.proofs.Kept.{same_grids}
 use Rattle.climbing.proofs.climb.Goals as goal
 
-pub split_number-outlet-requires : goal.split_number-outlet-requires
-split_number-outlet-requires c = c.requires.climbable.some_cols
+pub split_number-requires : goal.split_number-requires
+split_number-requires c = c.requires.climbable.some_cols
 
 pub loop-k-init : goal.loop-k-init
 loop-k-init c =
     let s = c.requires in (
       same_grids,
       standing_begin s.climbable s.place_in_bounds.1 s.place_in_bounds.0 refl s.resting
-          c.split_number-outlet.ensures,
+          c.split_number.ensures,
     )
 
 pub next_turn-requires : goal.next_turn-requires
@@ -59,8 +59,8 @@ below-p-requires c =
       has_next = has_next s.climbable l (rw c.marks.ensures at c.next_turn.ensures) c.in-None.is c.if-grids-x-ge-MARK.false;
     }
 
-pub bounds-codes-x : goal.bounds-codes-x
-bounds-codes-x c =
+pub bounds-grid-x : goal.bounds-grid-x
+bounds-grid-x c =
     let s = c.requires in
     let l = c.loop-k.invariant.1 in
     omega (arith, x_inside s.climbable l, s.climbable.grid.has_codes)
@@ -109,8 +109,8 @@ moved-p-requires c =
       k_bound = ((rw c.marks.ensures at c.next_turn.ensures).is_turn _ c.in-Some.is, has_neighbour s.climbable l (rw c.marks.ensures at c.next_turn.ensures) c.in-Some.is);
     }
 
-pub bounds-codes-p : goal.bounds-codes-p
-bounds-codes-p c =
+pub bounds-grid-p : goal.bounds-grid-p
+bounds-grid-p c =
     let s = c.requires in
     omega (arith, s.climbable.grid.has_codes, at_inside c.moved-p.ensures.on)
 

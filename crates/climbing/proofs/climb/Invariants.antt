@@ -10,10 +10,10 @@ use Rattle.climbing.proofs.climb.Given as goal
 abbrev pub invariant-loop-k : goal.invariant-loop-k
 invariant-loop-k l =
     SameGrids l.initial.grids l.grids
-    × Standing l.rows l.cols l.codes l.outlets l.steps l.place l.p.row l.p.col l.p.at l.p.turn
+    × Standing l.grid.rows l.grid.cols l.grid.codes.now l.outlets l.steps l.place l.p.cell.row l.p.cell.col l.p.at l.p.turn
     (held_by l.initial.grids) (held_by l.grids)
 
 abbrev pub decreases-loop-k : goal.decreases-loop-k
 decreases-loop-k l =
-    2 * blanks (l.rows * l.cols) l.grids.down_straight.now l.grids.down_diagonal.now
+    2 * blanks (l.grid.rows * l.grid.cols) l.grids.down_straight.now l.grids.down_diagonal.now
     + (get_or l.grids.down_straight.now l.p.at 0 + get_or l.grids.down_diagonal.now l.p.at 0 % 2 ^ 31)

@@ -9,5 +9,5 @@ use Rattle.climbing.proofs.climb_all.Given as goal
 abbrev pub invariant-loop-j : goal.invariant-loop-j
 invariant-loop-j l =
     SameGrids l.initial.grids l.grids
-    × Resting (grid_of l.rows l.cols l.codes) l.outlets l.j (held_by l.grids)
-    × GridsKept (l.rows * l.cols) (held_by l.initial.grids) (held_by l.grids)
+    × Resting (grid_of l.grid.rows l.grid.cols l.grid.codes.now) l.outlets l.j (held_by l.grids)
+    × GridsKept (l.grid.rows * l.grid.cols) (held_by l.initial.grids) (held_by l.grids)

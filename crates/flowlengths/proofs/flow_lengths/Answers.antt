@@ -22,6 +22,13 @@ returns-in_err-check_outlets c =
     refused q lent (refusal_told _ c.from_residual.result is ∙ c.in_err-check_outlets.ensures)
     (not_0 _ c.from_residual.result is)
 
+pub invariant_of-give_all : goal.invariant_of-give_all
+invariant_of-give_all c =
+    let a = c.args in
+    let q = catchment a.rows a.cols a.codes.now a.accumulation.now a.outlets.now in
+    let lent = length_grids a.down_straight.now a.down_diagonal.now a.up_straight.now a.up_diagonal.now in
+    record { lent = (climbable q lent c.in_ok-check_outlets.ensures refl refl).grid }
+
 pub give_all-requires : goal.give_all-requires
 give_all-requires c =
     let a = c.args in
