@@ -2,14 +2,15 @@
 // once, by looking at the neighbours, and no word is read; so the inner cells of a row are counted several at once.
 #![tactic(auto)]
 
-ghost use Rattle.std.specs.Prelude.{◌≡◌, ◌*◌, ◌+◌, ◌-◌, ◌≤◌, ◌<◌};
+ghost use Rattle.std.specs.Prelude.{◌≡◌, count_by, ◌*◌, ◌+◌, ◌-◌, ◌≤◌, ◌<◌};
 ghost use Rattle.ground.specs.Grid.{grid_of};
 ghost use Rattle.moves.specs.Lent.{OnCell};
 ghost use Rattle.inflows.specs.Values.{InnerOn, flows_at};
-ghost use Rattle.counting.specs.Counting.{counted_word, Countable, Counts, CountsRow};
+ghost use Rattle.counting.specs.Counting.{word_by, counted_word, Countable, Counts, CountsRow};
 
 use inflows::inner_neighbour;
-use moves::{Spot, inflow_from};
+use moves::inflow_from;
+use std::array;
 
 // One inflow, in a cell's word.
 pub const INFLOW: u32 = 33554432;
@@ -19,51 +20,40 @@ fn flows_in(rows: usize, cols: usize, codes: &[u8], row: usize, col: usize, k: u
     requires { OnCell rows cols codes.now row col }
     ensures { result ≡ flows_at (grid_of rows cols codes.now) (row * cols + col) k }
 {
-    match inflow_from(rows, cols, codes, row, col, k) {
-        Spot::Off => false,
-        Spot::On { row: _, col: _ } => true,
-    }
+    inflow_from(rows, cols, codes, row, col, k).is_some()
 }
 
-// The word of a cell: 0 at a null cell, else 1 and what flows in.
+// The word of a cell with this code, by which neighbours flow in: 0 at a null cell, else 1 and the inflows. It adds up
+// before it asks for the code, so that no branch is left.
+fn word_of(code: u8, flows: &[bool; 8]) -> u32
+    ensures { result ≡ word_by code (count_by (λ b. b) flows.now) }
+{
+    let inflows: u32 = flows.iter().map(|flows| u32::from(*flows)).sum();
+    let word = 1 + INFLOW * inflows;
+    if code == 0 { 0 } else { word }
+}
+
+// The word of any cell.
 fn word_at(rows: usize, cols: usize, codes: &[u8], row: usize, col: usize) -> u32
     requires { OnCell rows cols codes.now row col }
     ensures { result ≡ counted_word (grid_of rows cols codes.now) (row * cols + col) }
 {
-    let mut word: u32 = 1;
-    let mut k: usize = 0;
-    while k < 8 {
-        let flows = flows_in(rows, cols, codes, row, col, k);
-        k += 1;
-        if flows {
-            word += INFLOW;
-        }
-    }
-    if codes[row * cols + col] == 0 {
-        return 0;
-    }
-    word
+    word_of(
+        codes[row * cols + col],
+        &array::from_fn(|k| flows_in(rows, cols, codes, row, col, k)),
+    )
 }
 
-// The word of an inner cell.
+// The word of an inner cell. No border is tested.
 fn inner_word_at(rows: usize, cols: usize, codes: &[u8], row: usize, col: usize) -> u32
     requires { InnerOn rows cols codes.now row col }
     ensures { result ≡ counted_word (grid_of rows cols codes.now) (row * cols + col) }
 {
-    let mut word: u32 = 1;
-    let mut k: usize = 0;
-    while k < 8 {
-        let n = inner_neighbour(rows, cols, codes, row, col, k);
-        k += 1;
-        if n.flows {
-            word += INFLOW;
-        }
-    }
     let here = row * cols + col;
-    if codes[here] == 0 {
-        return 0;
-    }
-    word
+    word_of(
+        codes[here],
+        &array::from_fn(|k| inner_neighbour(rows, cols, codes, row, col, k).flows),
+    )
 }
 
 // Counts the inner cells of a row that is neither the first nor the last.
@@ -72,10 +62,8 @@ fn count_inside(rows: usize, cols: usize, codes: &[u8], words: &mut [u32], row: 
     ensures { CountsRow (grid_of rows cols codes.now) row 1 (cols - 1) words.old
         words.new }
 {
-    let mut col: usize = 1;
-    while col + 1 < cols {
+    for col in 1..cols - 1 {
         words[row * cols + col] = inner_word_at(rows, cols, codes, row, col);
-        col += 1;
     }
 }
 
@@ -93,10 +81,8 @@ fn count_part(
     ensures { CountsRow (grid_of rows cols codes.now) row from end words.old
         words.new }
 {
-    let mut col = from;
-    while col < end {
+    for col in from..end {
         words[row * cols + col] = word_at(rows, cols, codes, row, col);
-        col += 1;
     }
 }
 
@@ -106,10 +92,7 @@ fn count_row(rows: usize, cols: usize, codes: &[u8], words: &mut [u32], row: usi
     ensures { CountsRow (grid_of rows cols codes.now) row 0 cols words.old
         words.new }
 {
-    if row < 1 {
-        return count_part(rows, cols, codes, words, row, 0, cols);
-    }
-    if rows <= row + 1 {
+    if row < 1 || rows <= row + 1 {
         return count_part(rows, cols, codes, words, row, 0, cols);
     }
     count_part(rows, cols, codes, words, row, 0, 1);
@@ -123,9 +106,7 @@ pub fn count_all(rows: usize, cols: usize, codes: &[u8], words: &mut [u32])
     ensures { Counts (grid_of rows cols codes.now) (rows * cols) words.old
         words.new }
 {
-    let mut row: usize = 0;
-    while row < rows {
+    for row in 0..rows {
         count_row(rows, cols, codes, words, row);
-        row += 1;
     }
 }

@@ -12,19 +12,17 @@ ghost use Rattle.divide.specs.Divides.{NotesCells, LeavesCells, CanNote, NotesEn
 use cells::split_number;
 use gathering::gather;
 use inflows::inner_neighbour;
-use lists::index_of;
 use notes::{ENCLOSED, INSIDE, OUTLET};
+use upstream::is_inner;
 
 // Notes the outlets, each of them one of the first n cells.
 pub fn note_outlets(n: usize, outlets: &[u32], grid: &mut [u32])
     requires { (n ≤ length grid.old) × Within n outlets.now }
     ensures { NotesOutlets n outlets.now grid.old grid.new }
 {
-    let mut j: usize = 0;
-    while j < outlets.len() {
-        let at = index_of(outlets[j]);
+    for &outlet in outlets {
+        let at = outlet as usize;
         grid[at] = grid[at] % OUTLET + OUTLET;
-        j += 1;
     }
 }
 
@@ -33,10 +31,8 @@ pub fn clear_notes(n: usize, grid: &mut [u32])
     requires { n ≤ length grid.old }
     ensures { ClearsNotes n grid.old grid.new }
 {
-    let mut i: usize = 0;
-    while i < n {
-        grid[i] = grid[i] % OUTLET;
-        i += 1;
+    for word in &mut grid[..n] {
+        *word %= OUTLET;
     }
 }
 
@@ -53,15 +49,7 @@ fn inner_beside(
     ensures { result
         ≡ beside_outside (grid_of rows cols codes.now) grid.now (row * cols + col) }
 {
-    let mut k: usize = 0;
-    while k < 8 {
-        let at = inner_neighbour(rows, cols, codes, row, col, k).at;
-        if grid[at] < INSIDE {
-            return true;
-        }
-        k += 1;
-    }
-    false
+    (0..8).any(|k| grid[inner_neighbour(rows, cols, codes, row, col, k).at] < INSIDE)
 }
 
 // Has a cell a neighbour that is off the grid or not noted as inside?
@@ -70,10 +58,7 @@ fn is_beside(rows: usize, cols: usize, codes: &[u8], grid: &[u32], row: usize, c
     ensures { result
         ≡ beside_outside (grid_of rows cols codes.now) grid.now (row * cols + col) }
 {
-    if 1 <= row && row + 1 < rows && 1 <= col && col + 1 < cols {
-        return inner_beside(rows, cols, codes, grid, row, col);
-    }
-    true
+    !is_inner(rows, cols, row, col) || inner_beside(rows, cols, codes, grid, row, col)
 }
 
 // Notes, of the first n cells of a list, those beside no outside cell as enclosed.
@@ -82,9 +67,8 @@ fn note_cells(rows: usize, cols: usize, codes: &[u8], n: usize, list: &[u32], gr
     ensures { NotesCells rows cols codes.now n list.now grid.old
         grid.new }
 {
-    let mut k: usize = 0;
-    while k < n {
-        let cell = index_of(list[k]);
+    for &number in &list[..n] {
+        let cell = number as usize;
         let row = cell / 4096;
         let col = cell % 4096;
         if !is_beside(rows, cols, codes, grid, row, col) {
@@ -92,7 +76,6 @@ fn note_cells(rows: usize, cols: usize, codes: &[u8], n: usize, list: &[u32], gr
             let word = grid[at];
             grid[at] = word % ENCLOSED + ENCLOSED + word / INSIDE * INSIDE;
         }
-        k += 1;
     }
 }
 
@@ -101,12 +84,9 @@ fn leave_cells(rows: usize, cols: usize, codes: &[u8], n: usize, list: &[u32], g
     requires { HasList rows cols codes.now grid.old list.now n }
     ensures { LeavesCells rows cols n list.now grid.old grid.new }
 {
-    let mut k: usize = 0;
-    while k < n {
-        let cell = index_of(list[k]);
-        let at = cell / 4096 * cols + cell % 4096;
-        grid[at] = grid[at] % INSIDE;
-        k += 1;
+    for &number in &list[..n] {
+        let cell = number as usize;
+        grid[cell / 4096 * cols + cell % 4096] %= INSIDE;
     }
 }
 

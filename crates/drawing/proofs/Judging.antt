@@ -1,27 +1,33 @@
 -- The number of a drawing by its checks.
 -- Assumes nothing.
-use mathlib.Core.Path.{◌≡◌, refl, sym, ◌∙◌}
+use mathlib.Core.Path.{◌≡◌, refl, sym, ap, ◌∙◌}
 use mathlib.Core.Bool.{Bool, true, false, cond}
 use mathlib.Core.Logic.{inl}
 use mathlib.Core.List.{List, [], ◌∷◌, ◌++◌}
 use Prim.Native.Nat.{ℕ, ◌≤◌, ◌<◌}
 use native.Mathlib.Omega.{arith}
 use lib.ListN.{length}
-use Rattle.std.specs.Prelude.{Some, None}
+use Rattle.std.specs.Prelude.{Some, None, Result, Ok, Err}
+use Rattle.std.specs.Result.{IsErrAnd}
+use Rattle.std.proofs.lemmas.Result.{err_from_is_err_and}
 use lib.Dec.{eqb, leb}
 use borrow.Author.Tests.{eqb-true, eqb-false, ne_eqb, leb-true, le-leb, lt-leb}
 use Rattle.ground.specs.Compass.{squares}
 use Rattle.ground.specs.Grid.{cell_count, next}
 use Rattle.ground.specs.Subwatershed.{is_outlet, in_subwatershed}
+use Rattle.answers.specs.declared.Refusal.{Refusal}
+use Rattle.answers.specs.declared.Refusal.TheVariants.{Start, Room}
+use Rattle.answers.specs.Refusals.{refusal_number}
 use Rattle.answers.specs.Checks.{Check, first_failed, check18, check22, check23}
 use Rattle.answers.specs.Entries.{place_checks}
 use Rattle.answers.specs.Drawing.{Drawing, drawn_path, draw_number, drawn_part}
 use Rattle.answers.proofs.FirstFailed.{handed_on}
+use Rattle.answers.proofs.Refusals.{has_number}
 use Rattle.checks.proofs.Passed.{Sized, Listed, sized, listed, beyond_place, in_list}
 use Rattle.flowpath.specs.FlowPath.{outlet_of, IsPath}
 use Rattle.flowpath.specs.Measuring.{Surveyed, path_length}
 use Rattle.flowpath.proofs.Walked.{flow_path}
-use Rattle.drawing.specs.Judging.{answer_of, Judged}
+use Rattle.drawing.specs.Judging.{Judged}
 
 -- checks that give 0 with others after them give it without
 first_passes : (cs ds : List Check) → first_failed (cs ++ ds) ≡ 0 → first_failed cs ≡ 0
@@ -30,6 +36,10 @@ first_passes cs ds z = go (eqb (first_failed cs) 0) refl
     go : (b : Bool) → eqb (first_failed cs) 0 ≡ b → first_failed cs ≡ 0
     go true e = eqb-true (first_failed cs) 0 e
     go false e = handed_on cs ds refl (eqb-false (first_failed cs) 0 e) ∙ z
+
+-- what the exit of a `?` hands on
+pub same_err : {A : Type 0} {refusal : Refusal} (r : Result A Refusal) → IsErrAnd r (λ e. e ≡ refusal) → r ≡ Err refusal
+same_err r h = let p = err_from_is_err_and r h in p.1 ∙ ap (λ (e : Refusal). Err e) p.2
 
 -- what 10 to 18 have found out
 pub record Chosen (q : Drawing) : Type 0 where
@@ -96,13 +106,16 @@ module _ (q : Drawing) (lent : List ℕ) where
   unfolding draw_number
   number_is = refl
 
-  refused : (n : ℕ) → (n ≡ 0 → ⊥) → draw_number q lent ≡ n → Judged q lent (answer_of n 0)
+  refused : (refusal : Refusal) → draw_number q lent ≡ refusal_number refusal → Judged q lent (Err refusal)
   unfolding drawn_part
-  refused n z e = record { answers = sym e; counts = rw (e, ne_eqb n 0 z) }
+  refused refusal e =
+      record { answers = sym e; counts = rw (e, ne_eqb (refusal_number refusal) 0 (has_number refusal)) }
 
   -- REFUSED BY 10 TO 18
-  pub refused_early : {n : ℕ} → n ≡ first_failed (early q) → (n ≡ 0 → ⊥) → Judged q lent (answer_of n 0)
-  refused_early {n} is z = refused n z (number_is ∙ sym (handed_on (early q) last is z))
+  pub refused_early : (refusal : Refusal) (r : Result ℕ Refusal) → IsErrAnd r (λ e. e ≡ refusal)
+      → refusal_number refusal ≡ first_failed (early q) → Judged q lent r
+  refused_early refusal r h is = rw (same_err r h)
+      (refused refusal (number_is ∙ sym (handed_on (early q) last is (has_number refusal))))
 
   module _ (passes : first_failed (early q) ≡ 0) where
     -- then 22 and 23
@@ -113,25 +126,25 @@ module _ (q : Drawing) (lent : List ℕ) where
 
     -- REFUSED BY 22: there is nothing to draw
     pub refused_22 : None ≡ path_length q.catchment.grid q.catchment.outlets (outlet_of q) q.start
-        → Judged q lent (answer_of 22 0)
+        → Judged q lent (Err Start)
     unfolding path_length
     refused_22 is = go (is_inside q) refl
       where
-        go : (b : Bool) → is_inside q ≡ b → Judged q lent (answer_of 22 0)
+        go : (b : Bool) → is_inside q ≡ b → Judged q lent (Err Start)
         go true e = let some : None ≡ Some (length (drawn_path q)) = is ∙ rw e in cc
-        go false e = refused 22 (λ r. absurd (omega (arith, r))) (by_last ∙ rw e)
+        go false e = refused Start (by_last ∙ rw e)
 
     module _ {count : ℕ}
         (is : Some count ≡ path_length q.catchment.grid q.catchment.outlets (outlet_of q) q.start) where
       -- BY 23
-      pub refused_23 : length lent < count → Judged q lent (answer_of 23 0)
+      pub refused_23 : length lent < count → Judged q lent (Err Room)
       refused_23 h =
           let i = inside q is in
-          refused 23 (λ r. absurd (omega (arith, r)))
+          refused Room
           (by_last ∙ rw (i.0, lt-leb (length (drawn_path q)) (length lent) (omega (arith, h, i.1))))
 
       -- OR ACCEPTED
-      pub accepted : count ≤ length lent → Judged q lent (answer_of 0 count)
+      pub accepted : count ≤ length lent → Judged q lent (Ok count)
       unfolding drawn_part
       accepted h =
           let i = inside q is in

@@ -8,8 +8,7 @@ ghost use Rattle.ground.specs.Grid.{grid_of};
 ghost use Rattle.moves.specs.Moves.{dir_at};
 ghost use Rattle.gathering.specs.Gathering.{tributaries, CanFollow, ListsFrom, NewestFirst, CanGather, Gathers};
 
-use lists::index_of;
-use moves::{Spot, inflow_from};
+use moves::inflow_from;
 use notes::{INSIDE, OUTLET};
 
 // Neighbour k of a cell, if it flows in and is no outlet, is entered and follows n others in the list.
@@ -30,19 +29,17 @@ fn list_inflow(
     ensures { ListsFrom rows cols codes.now outlets.now row col (dir_at k ∷ []) n
         grid.old list.old result grid.new list.new }
 {
-    match inflow_from(rows, cols, codes, row, col, k) {
-        Spot::Off => n,
-        Spot::On { row: r, col: c } => {
-            let at = r * cols + c;
-            let word = grid[at];
-            if word / OUTLET % 2 == 1 {
-                return n;
-            }
-            grid[at] = word % INSIDE + INSIDE;
-            list[n] = (r * 4096 + c) as u32;
-            n + 1
-        }
+    let Some(cell) = inflow_from(rows, cols, codes, row, col, k) else {
+        return n;
+    };
+    let at = cell.row * cols + cell.col;
+    let word = grid[at];
+    if word / OUTLET % 2 == 1 {
+        return n;
     }
+    grid[at] = word % INSIDE + INSIDE;
+    list[n] = (cell.row * 4096 + cell.col) as u32;
+    n + 1
 }
 
 // The same for all neighbours.
@@ -63,10 +60,8 @@ fn list_inflows(
         grid.old list.old result grid.new list.new }
 {
     let mut end = n;
-    let mut k: usize = 0;
-    while k < 8 {
+    for k in 0..8 {
         end = list_inflow(rows, cols, codes, outlets, row, col, k, end, grid, list);
-        k += 1;
     }
     end
 }
@@ -77,11 +72,8 @@ fn newest_first(k: usize, n: usize, list: &mut [u32]) -> usize
     requires { (k < n) × (n ≤ length list.old) }
     ensures { NewestFirst k n list.old result list.new }
 {
-    let last = n - 1;
-    let number = list[last];
-    list[last] = list[k];
-    list[k] = number;
-    index_of(number)
+    list.swap(n - 1, k);
+    list[k] as usize
 }
 
 // Lists the cells of the subwatershed of an outlet in the first places of a list, and notes each as inside. It answers
@@ -103,8 +95,9 @@ pub fn gather(
     let at = row * cols + col;
     grid[at] = grid[at] % INSIDE + INSIDE;
     list[0] = (row * 4096 + col) as u32;
-    let mut n: usize = 1;
-    let mut k: usize = 0;
+    let mut n = 1;
+    let mut k = 0;
+    // No for: the number of listed cells grows meanwhile.
     while k < n {
         let cell = newest_first(k, n, list);
         n = list_inflows(

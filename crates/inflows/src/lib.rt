@@ -35,7 +35,8 @@ fn inflow_at(
     }
 }
 
-// A neighbour of an inner cell: its number, and whether it flows in.
+// A neighbour of an inner cell: its number, and whether it flows in. No Option: the number is one of the grid either way,
+// and is looked up before the answer is.
 #[derive(Clone, Copy)]
 pub struct Beside {
     pub at: usize,
@@ -63,7 +64,7 @@ pub fn inner_neighbour(
 }
 
 // What flows in from neighbour k of an inner cell. The number is loaded before it is asked whether the neighbour flows
-// in, so that no branch is left.
+// in, so that no branch is left. `if n.flows { value } else { 0 }` would leave one, and check 14 takes 1.5 times as long.
 fn inner_inflow_at(
     rows: usize,
     cols: usize,
@@ -78,8 +79,11 @@ fn inner_inflow_at(
         ≡ value_at (grid_of rows cols codes.now) accumulation.now (row * cols + col) k }
 {
     let n = inner_neighbour(rows, cols, codes, row, col, k);
-    let value = accumulation[n.at];
-    if n.flows { value } else { 0 }
+    let mut value = accumulation[n.at];
+    if !n.flows {
+        value = 0;
+    }
+    value
 }
 
 // The inflow record of an inner cell. It has one caller, so that it is inlined there.

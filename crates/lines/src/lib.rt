@@ -21,10 +21,8 @@ fn put_word(text: &mut [u8], at: usize, word: &[u8]) -> usize
     ensures { Appends word.now at text.old result text.new }
 {
     let mut to = at;
-    let mut i: usize = 0;
-    while i < word.len() {
-        to = put(text, to, word[i]);
-        i += 1;
+    for &byte in word {
+        to = put(text, to, byte);
     }
     to
 }

@@ -1,51 +1,25 @@
 -- `counting::count_part` meets its contract. The invariant: the part's cells before the column are counted.
 -- Assumes nothing.
-use Prim.Native.Nat.{◌+◌, ◌*◌, ◌<◌, ◌≤◌}
 use native.Mathlib.Omega.{arith}
-use lib.ListN.{length}
 use Rattle.counting.proofs.Rows.{cell, in_grid, in_words, row_begin, row_step, row_front}
 use Rattle.counting.proofs.count_part.Goals as goal
 
 pub loop-col-init : goal.loop-col-init
-loop-col-init c = (omega arith, row_begin (omega arith))
+loop-col-init c = row_begin (omega arith)
 
 pub word_at-requires : goal.word_at-requires
-word_at-requires c =
-    cell c.requires.0 c.requires.1 (omega (arith, c.loop-col-test.true, c.requires.3))
-
--- the cell's number, and that there is room for it
-here : (c : goal.After-word_at) → let a = c.args in
-    (a.row * a.cols + c.loop-col.col < a.rows * a.cols) × (a.rows * a.cols ≤ 4096 * 4096)
-here c = in_grid c.requires.0 c.requires.1
-    (omega (arith, c.loop-col-test.true, c.requires.3))
-
-room : (c : goal.After-word_at) → let a = c.args in
-    a.row * a.cols + c.loop-col.col < length c.loop-col.words
-room c = in_words c.requires.0 c.requires.1
-    (omega (arith, c.loop-col-test.true, c.requires.3)) c.loop-col.invariant.1.counting
-
-pub overflow_mul-words : goal.overflow_mul-words
-overflow_mul-words c = omega (arith, here c)
-
-pub overflow_add-words : goal.overflow_add-words
-overflow_add-words c = omega (arith, here c)
-
-pub offset_bounds-words-row : goal.offset_bounds-words-row
-offset_bounds-words-row c = omega (arith, here c)
+word_at-requires c = cell c.requires.0 c.requires.1 (omega arith)
 
 pub bounds-words-row : goal.bounds-words-row
-bounds-words-row c = room c
-
-pub loop-col-smaller : goal.loop-col-smaller
-loop-col-smaller c = omega (arith, c.loop-col-test.true, c.requires)
+bounds-words-row c = in_words c.requires.0 c.requires.1 (omega arith) c.loop-col.invariant.counting
 
 pub loop-col-preserved : goal.loop-col-preserved
 loop-col-preserved c =
-    let v = c.loop-col.invariant in
-    (omega (arith, v.0), row_step v.1 (here c).0 (room c) c.word_at.ensures)
+    row_step c.loop-col.invariant (in_grid c.requires.0 c.requires.1 (omega arith)).0
+    (in_words c.requires.0 c.requires.1 (omega arith) c.loop-col.invariant.counting) c.word_at.ensures
 
 pub shape_of-words : goal.shape_of-words
-shape_of-words c = c.loop-col.invariant.1.counting.same_length
+shape_of-words c = c.loop-col.invariant.counting.same_length
 
 pub returns : goal.returns
-returns c = row_front c.loop-col.invariant.1 (omega arith)
+returns c = row_front c.loop-col.invariant (omega arith)

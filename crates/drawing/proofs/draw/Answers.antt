@@ -9,10 +9,10 @@ pub slice_bounds-result-end : goal.slice_bounds-result-end
 slice_bounds-result-end c =
     let a = c.args in
     let q = drawing_of a.rows a.cols a.codes.now a.accumulation.now a.outlets.now a.place a.start in
-    part_long q a.path.now c.draw_into-drawn.ensures
+    rw c.unwrap_or-count.ensures (part_long q a.path.now c.draw_into-drawn.ensures)
 
 pub returns : goal.returns
 returns c =
     let a = c.args in
     let q = drawing_of a.rows a.cols a.codes.now a.accumulation.now a.outlets.now a.place a.start in
-    (part_taken q a.path.now c.draw_into-drawn.ensures, refl)
+    (rw c.unwrap_or-count.ensures (part_taken q a.path.now c.draw_into-drawn.ensures), refl)

@@ -1,11 +1,12 @@
 -- `writing::put_pair` meets its contract: a mark, a number, and another after them.
 -- Assumes nothing.
+use mathlib.Core.Path.{sym}
+use mathlib.Core.List.{append_assoc}
+use Rattle.spelling.specs.Format.{two_bytes}
 use Rattle.writing.proofs.Puts.{puts_then}
 use Rattle.writing.proofs.put_pair.Goals as goal
 
 pub returns : goal.returns
 returns c =
-    let p = c.put-after in
-    let q = c.put_number-middle in
-    let r = c.put_number in
-    puts_then (puts_then p.ensures q.ensures) r.ensures
+    let a = c.args in
+    puts_then c.put-after.ensures (puts_then c.put_number-middle.ensures c.put_number.ensures)

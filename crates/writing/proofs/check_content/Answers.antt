@@ -1,4 +1,4 @@
--- `writing::content_number` meets its contract: each return is at the first check that fails.
+-- `writing::check_content` meets its contract: each return is at the first check that fails.
 -- Assumes nothing.
 use mathlib.Core.Path.{sym, ◌∙◌}
 use mathlib.Core.Bool.{true, false}
@@ -6,7 +6,7 @@ use native.Mathlib.Omega.{arith}
 use Rattle.spelling.specs.Content.{content}
 use Rattle.spelling.proofs.Records.{sized}
 use Rattle.writing.proofs.Contents.{other_sides, few_codes, other_code, many_outlets, by_cells}
-use Rattle.writing.proofs.content_number.Goals as goal
+use Rattle.writing.proofs.check_content.Goals as goal
 
 pub returns-then-not-are_sheet_sides : goal.returns-then-not-are_sheet_sides
 returns-then-not-are_sheet_sides c =
