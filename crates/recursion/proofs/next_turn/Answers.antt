@@ -13,12 +13,6 @@ use Rattle.recursion.proofs.Turning.{one_further, next_found}
 use Rattle.upstream.proofs.Turning.{nothing_there}
 use Rattle.recursion.proofs.next_turn.Goals as goal
 
-pub loop-n-init : goal.loop-n-init
-loop-n-init c = λ i h l. absurd (omega arith)
-
-pub tributary-requires : goal.tributary-requires
-tributary-requires c = (c.requires.on, c.is_inner-inner.ensures.0)
-
 pub turn_at-requires : goal.turn_at-requires
 turn_at-requires c =
     let f = c.tributary.ensures in
@@ -39,6 +33,3 @@ loop-n-preserved c =
     one_further (λ i. inflow_in (grid_of a.rows a.cols a.codes.now) a.outlets.now
     (a.row * a.cols + a.col) (dir_at i) ≡ none) a.k l.n l.invariant
     (nothing_there c.tributary.ensures c.in_default.is)
-
-pub returns : goal.returns
-returns c = λ i h k. c.loop-n.invariant i h (omega arith)
