@@ -205,16 +205,16 @@ module _ {g : Grid} {outlets : List ℕ} {i done : ℕ} where
     kept = k;
   }
 
-  module _ {cell : NumberedCell} (row_in : cell.row < g.rows) (col_in : cell.col < g.cols)
-      (is_at : cell.at ≡ cell.row * g.cols + cell.col) where
+  module _ {cell : NumberedCell} (row_in : cell.cell.row < g.rows) (col_in : cell.cell.col < g.cols)
+      (is_at : cell.at ≡ cell.cell.row * g.cols + cell.cell.col) where
     goes_on : {l m : List ℕ} → Kept (cell_count g) l m → Down g outlets m i cell.at done
         → Going g outlets i done l m (Some cell)
     goes_on {m = m} k d = record {
       is_down = λ x e. let q : cell ≡ x = cc in subst (λ (y : NumberedCell). Down g outlets m i y.at done) q d;
       is_at = λ x e. let q : cell ≡ x = cc in
-          subst (λ (y : NumberedCell). y.at ≡ y.row * g.cols + y.col) q is_at;
-      row_in = λ x e. let q : cell ≡ x = cc in subst (λ (y : NumberedCell). y.row < g.rows) q row_in;
-      col_in = λ x e. let q : cell ≡ x = cc in subst (λ (y : NumberedCell). y.col < g.cols) q col_in;
+          subst (λ (y : NumberedCell). y.at ≡ y.cell.row * g.cols + y.cell.col) q is_at;
+      row_in = λ x e. let q : cell ≡ x = cc in subst (λ (y : NumberedCell). y.cell.row < g.rows) q row_in;
+      col_in = λ x e. let q : cell ≡ x = cc in subst (λ (y : NumberedCell). y.cell.col < g.cols) q col_in;
       done_is = λ e. absurd (none-some cell (sym e));
       kept = k;
     }

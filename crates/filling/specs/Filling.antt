@@ -64,9 +64,9 @@ module _ (g : Grid) (outlets : List ℕ) where
   -- a way down: it is at a cell, or at its end
   pub record Going (looked done : ℕ) (old new : List ℕ) (r : Option NumberedCell) : Type 0 where
     pub is_down : (cell : NumberedCell) → r ≡ Some cell → Down new looked cell.at done
-    pub is_at : (cell : NumberedCell) → r ≡ Some cell → cell.at ≡ cell.row * g.cols + cell.col
-    pub row_in : (cell : NumberedCell) → r ≡ Some cell → cell.row < g.rows
-    pub col_in : (cell : NumberedCell) → r ≡ Some cell → cell.col < g.cols
+    pub is_at : (cell : NumberedCell) → r ≡ Some cell → cell.at ≡ cell.cell.row * g.cols + cell.cell.col
+    pub row_in : (cell : NumberedCell) → r ≡ Some cell → cell.cell.row < g.rows
+    pub col_in : (cell : NumberedCell) → r ≡ Some cell → cell.cell.col < g.cols
     pub done_is : r ≡ None → Looked new looked done
     pub kept : Kept (cell_count g) old new
 

@@ -8,4 +8,4 @@ use Rattle.filling.proofs.flag.Given as goal
 
 abbrev pub invariant-loop-j : goal.invariant-loop-j
 invariant-loop-j l =
-    Flagged (grid_of l.rows l.cols l.codes) l.outlets l.words l.j × Kept (l.rows * l.cols) l.initial.words l.words
+    Flagged (grid_of l.grid.rows l.grid.cols l.grid.codes.now) l.outlets l.words l.j × Kept (l.grid.rows * l.grid.cols) l.initial.words l.words

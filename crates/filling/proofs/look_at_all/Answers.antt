@@ -28,8 +28,8 @@ look_at-done-requires c =
       looked = v.holds;
     }
 
-pub next-p-requires : goal.next-p-requires
-next-p-requires c =
+pub next-cell-requires : goal.next-cell-requires
+next-cell-requires c =
     let v = c.loop-at.invariant in (
       omega (
         arith,
@@ -43,7 +43,7 @@ next-p-requires c =
 pub loop-at-preserved : goal.loop-at-preserved
 loop-at-preserved c =
     let t = c.look_at-done.ensures in
-    scan_on c.loop-at.invariant c.loop-at-test.true c.next-p.ensures t.looks t.keeps
+    scan_on c.loop-at.invariant c.loop-at-test.true c.next-cell.ensures t.looks t.keeps
 
 pub shape_of-words : goal.shape_of-words
 shape_of-words c = c.loop-at.invariant.kept.same_length

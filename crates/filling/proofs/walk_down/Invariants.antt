@@ -8,7 +8,7 @@ use Rattle.filling.proofs.walk_down.Given as goal
 
 abbrev pub invariant-loop-next : goal.invariant-loop-next
 invariant-loop-next l = Going
-    (grid_of l.rows l.cols l.codes) l.outlets l.looked l.done l.initial.words l.words l.next
+    (grid_of l.grid.rows l.grid.cols l.grid.codes.now) l.outlets l.looked l.done l.initial.words l.words l.next
 
 abbrev pub decreases-loop-next : goal.decreases-loop-next
 decreases-loop-next l = ahead l.next (sum_of l.words)
