@@ -9,6 +9,7 @@ ghost use Rattle.answers.specs.Entries.{catchment, Accumulates, check_number, Su
 use answers::Refusal;
 use checks::{check_agreed, check_grid, check_outlets};
 use filling::fill;
+use moves::Grid;
 
 // Accumulates a grid of codes: 10, 11, 12, 13. A ring is seen while filling, and the cells' places are then cleared.
 pub fn accumulate(
@@ -21,7 +22,7 @@ pub fn accumulate(
         (number_told result) accumulation.new }
 {
     check_grid(rows, cols, codes, &[accumulation.len()])?;
-    if !fill(rows, cols, codes, &[], accumulation) {
+    if !fill(Grid { rows, cols, codes }, &[], accumulation) {
         return Err(Refusal::Ring);
     }
     Ok(())
@@ -55,6 +56,6 @@ pub fn subaccumulate(
 {
     let lengths = [accumulation.len(), subaccumulation.len()];
     check_outlets(rows, cols, codes, accumulation, outlets, &lengths)?;
-    fill(rows, cols, codes, outlets, subaccumulation);
+    fill(Grid { rows, cols, codes }, outlets, subaccumulation);
     Ok(())
 }

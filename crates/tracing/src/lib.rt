@@ -1,16 +1,15 @@
 // Tracing all longest paths to an outlet of a list.
 #![tactic(auto)]
 
-ghost use Rattle.std.specs.Prelude.{◌≡◌, ◌*◌, ◌≤◌, length, get_or};
+ghost use Rattle.std.specs.Prelude.{◌≡◌, ◌*◌, ◌≤◌, length};
 ghost use Rattle.search.specs.Tracing.{numbers_each};
-ghost use Rattle.ground.specs.Grid.{grid_of};
-ghost use Rattle.notes.specs.Notes.{edition_number};
-ghost use Rattle.upstream.specs.Ready.{Ready, MetAt};
-ghost use Rattle.noting.specs.Noting.{Fresh};
+ghost use Rattle.upstream.specs.Grids.{Ready};
+ghost use Rattle.noting.specs.Grids.{Fresh};
 ghost use Rattle.answers.specs.Entries.{catchment};
 ghost use Rattle.answers.specs.Tracings.{call_of, lent, TracesByRecursion, TracesByStack};
-ghost use Rattle.tracing.specs.Answering.{cells_of, tracing_at, Told, ToldAndLists, Lists, ListsAndClears};
-ghost use Rattle.tracing.specs.Preparing.{Chosen, Prepares};
+ghost use Rattle.tracing.specs.Answering.{Told, ToldAndLists, Lists, ListsAndClears};
+ghost use Rattle.tracing.specs.Preparing.{Prepares};
+ghost use Rattle.tracing.specs.Grids.{Chosen, MetAt, cells_of, tracing_at};
 
 use answers::{Refusal, Traced};
 use cells::split_number;
@@ -18,57 +17,49 @@ use checks::check_place;
 use filling::fill;
 use listing::{answer_for, list_starts, refused};
 use lists::clear;
+use moves::Grid;
 use notes::{Edition, cells_held};
 use noting::{make_plain, make_ready};
 use progress::Progress;
 use stack::NUMBERS_EACH;
+use upstream::FilledGrid;
 
 // Traces an outlet by recursion, in a grid that holds the subaccumulation and comes back as it was. The starts wait in
 // an array, since those of a length that is exceeded later must not be seen in the list.
 fn by_recursion(
     edition: Edition,
-    rows: usize,
-    cols: usize,
-    codes: &[u8],
+    grid: Grid,
     outlets: &[u32],
     subaccumulation: &mut [u32],
     dropping: bool,
     place: usize,
     starts: &mut [u32],
 ) -> Traced
-    requires fresh { Fresh rows cols codes.now outlets.now subaccumulation.old }
-    requires chosen { Chosen rows cols codes.now outlets.now place }
-    requires place_bound { cells_of rows cols codes.now outlets.now place ≤ 4096 }
-    ensures lists { Lists (tracing_at rows cols codes.now outlets.now place (edition_number edition) dropping)
-        starts.old result starts.new }
+    requires fresh { Fresh grid outlets.now subaccumulation.old }
+    requires chosen { Chosen grid outlets.now place }
+    requires place_bound { cells_of grid outlets.now place ≤ 4096 }
+    ensures lists { Lists (tracing_at grid.entry outlets.now place edition dropping) starts.old result
+        starts.new }
     ensures subaccumulation_unchanged { subaccumulation.new ≡ subaccumulation.old }
 {
-    let outlet = split_number(cols, outlets[place]);
+    let outlet = split_number(grid.cols, outlets[place]);
     let mut found = [0u32; 4096];
     make_ready(
         edition,
-        rows,
-        cols,
-        codes,
+        grid,
         outlets,
         place,
         place + 1,
         subaccumulation,
         &mut found,
     );
-    let p = recursion::trace(
-        rows,
-        cols,
-        codes,
+    let filled = FilledGrid {
+        grid,
         outlets,
         subaccumulation,
-        edition,
-        dropping,
-        outlet.row,
-        outlet.col,
-        &mut found,
-    );
-    make_plain(edition, rows * cols, subaccumulation);
+    };
+    let p = recursion::trace(filled, edition, dropping, outlet, &mut found);
+    make_plain(edition, grid.rows * grid.cols, subaccumulation);
     list_starts(&found, 4096, p.paths, starts);
     answer_for(p, starts.len())
 }
@@ -76,76 +67,40 @@ fn by_recursion(
 // Searches an outlet's subwatershed from pending cells, in a grid that is ready for it. The starts are left before the
 // end of the working numbers that the outlet's cells take.
 pub fn search_at(
+    filled: FilledGrid,
     edition: Edition,
-    rows: usize,
-    cols: usize,
-    codes: &[u8],
-    outlets: &[u32],
-    subaccumulation: &[u32],
     dropping: bool,
     place: usize,
     work: &mut [u32],
 ) -> Progress
-    requires ready { Ready rows cols codes.now outlets.now subaccumulation.now }
-    requires chosen { Chosen rows cols codes.now outlets.now place
-        × MetAt (edition_number edition) (grid_of rows cols codes.now) outlets.now (get_or outlets.now place 0)
-        subaccumulation.now }
-    requires place_in_bounds { numbers_each * cells_of rows cols codes.now outlets.now place ≤ length work.old }
-    ensures { Told (tracing_at rows cols codes.now outlets.now place
-        (edition_number edition) dropping)
-        (cells_of rows cols codes.now outlets.now place) work.old result
-        work.new }
+    requires ready { Ready filled }
+    requires chosen { Chosen filled.grid filled.outlets.now place × MetAt edition filled place }
+    requires place_in_bounds { numbers_each * cells_of filled.grid filled.outlets.now place ≤ length work.old }
+    ensures { Told (tracing_at filled.entry.grid filled.entry.outlets.now place edition dropping)
+        (cells_of filled.entry.grid filled.entry.outlets.now place) work.old result work.new }
 {
-    let cell = split_number(cols, outlets[place]);
-    stack::trace(
-        rows,
-        cols,
-        codes,
-        outlets,
-        subaccumulation,
-        edition,
-        dropping,
-        cell.row,
-        cell.col,
-        work,
-    )
+    let cell = split_number(filled.grid.cols, filled.outlets[place]);
+    stack::trace(filled, edition, dropping, cell, work)
 }
 
 // The same, and the starts are listed.
 pub fn list_at(
+    filled: FilledGrid,
     edition: Edition,
-    rows: usize,
-    cols: usize,
-    codes: &[u8],
-    outlets: &[u32],
-    subaccumulation: &[u32],
     dropping: bool,
     place: usize,
     starts: &mut [u32],
     work: &mut [u32],
 ) -> Progress
-    requires ready { Ready rows cols codes.now outlets.now subaccumulation.now }
-    requires chosen { Chosen rows cols codes.now outlets.now place
-        × MetAt (edition_number edition) (grid_of rows cols codes.now) outlets.now (get_or outlets.now place 0)
-        subaccumulation.now }
-    requires place_in_bounds { numbers_each * cells_of rows cols codes.now outlets.now place ≤ length work.old }
-    ensures { ToldAndLists (tracing_at rows cols codes.now outlets.now place
-        (edition_number edition) dropping)
-        (cells_of rows cols codes.now outlets.now place) starts.old
-        work.old result starts.new work.new }
+    requires ready { Ready filled }
+    requires chosen { Chosen filled.grid filled.outlets.now place × MetAt edition filled place }
+    requires place_in_bounds { numbers_each * cells_of filled.grid filled.outlets.now place ≤ length work.old }
+    ensures { ToldAndLists (tracing_at filled.entry.grid filled.entry.outlets.now place edition dropping)
+        (cells_of filled.entry.grid filled.entry.outlets.now place) starts.old work.old result starts.new work.new }
 {
-    let end = NUMBERS_EACH * cells_held(subaccumulation[outlets[place] as usize]) as usize;
-    let p = search_at(
-        edition,
-        rows,
-        cols,
-        codes,
-        outlets,
-        subaccumulation,
-        dropping,
-        place,
-        work,
-    );
+    let at = filled.outlets[place] as usize;
+    let end = NUMBERS_EACH * cells_held(filled.subaccumulation[at]) as usize;
+    let p = search_at(filled, edition, dropping, place, work);
     list_starts(work, end, p.paths, starts);
     p
 }
@@ -154,9 +109,7 @@ pub fn list_at(
 // was. The working numbers are cleared.
 fn by_stack(
     edition: Edition,
-    rows: usize,
-    cols: usize,
-    codes: &[u8],
+    grid: Grid,
     outlets: &[u32],
     subaccumulation: &mut [u32],
     dropping: bool,
@@ -165,40 +118,29 @@ fn by_stack(
     starts: &mut [u32],
     work: &mut [u32],
 ) -> Traced
-    requires fresh { Fresh rows cols codes.now outlets.now subaccumulation.old }
-    requires chosen { Chosen rows cols codes.now outlets.now place }
-    requires cells_value { (cells ≡ cells_of rows cols codes.now outlets.now place)
-        × (numbers_each * cells ≤ length work.old) }
-    ensures lists_and_clears { ListsAndClears (tracing_at rows cols codes.now outlets.now place
-        (edition_number edition) dropping)
-        starts.old (cells_of rows cols codes.now outlets.now place)
-        work.old result starts.new work.new }
+    requires fresh { Fresh grid outlets.now subaccumulation.old }
+    requires chosen { Chosen grid outlets.now place }
+    requires cells_value { (cells ≡ cells_of grid outlets.now place) × (numbers_each * cells ≤ length work.old) }
+    ensures lists_and_clears { ListsAndClears (tracing_at grid.entry outlets.now place edition dropping) starts.old
+        (cells_of grid.entry outlets.now place) work.old result starts.new work.new }
     ensures subaccumulation_unchanged { subaccumulation.new ≡ subaccumulation.old }
 {
     make_ready(
         edition,
-        rows,
-        cols,
-        codes,
+        grid,
         outlets,
         place,
         place + 1,
         subaccumulation,
         work,
     );
-    let p = list_at(
-        edition,
-        rows,
-        cols,
-        codes,
+    let filled = FilledGrid {
+        grid,
         outlets,
         subaccumulation,
-        dropping,
-        place,
-        starts,
-        work,
-    );
-    make_plain(edition, rows * cols, subaccumulation);
+    };
+    let p = list_at(filled, edition, dropping, place, starts, work);
+    make_plain(edition, grid.rows * grid.cols, subaccumulation);
     let end = NUMBERS_EACH * cells as usize;
     clear(end, work);
     answer_for(p, starts.len())
@@ -220,7 +162,7 @@ fn prepare(
 {
     let lengths = [accumulation.len(), subaccumulation.len()];
     check_place(rows, cols, codes, accumulation, outlets, place, &lengths)?;
-    fill(rows, cols, codes, outlets, subaccumulation);
+    fill(Grid { rows, cols, codes }, outlets, subaccumulation);
     Ok(subaccumulation[outlets[place] as usize])
 }
 
@@ -248,18 +190,25 @@ pub fn trace_by_recursion(
         Ok(edition) => edition,
         Err(refusal) => return refused(refusal),
     };
-    let cells = match prepare(rows, cols, codes, accumulation, outlets, place, subaccumulation) {
+    let cells = match prepare(
+        rows,
+        cols,
+        codes,
+        accumulation,
+        outlets,
+        place,
+        subaccumulation,
+    ) {
         Ok(cells) => cells,
         Err(refusal) => return refused(refusal),
     };
     if cells > 4096 {
         return refused(Refusal::TooManyCells);
     }
+    let grid = Grid { rows, cols, codes };
     by_recursion(
         edition,
-        rows,
-        cols,
-        codes,
+        grid,
         outlets,
         subaccumulation,
         dropping,
@@ -292,18 +241,25 @@ pub fn trace_by_stack(
         Ok(edition) => edition,
         Err(refusal) => return refused(refusal),
     };
-    let cells = match prepare(rows, cols, codes, accumulation, outlets, place, subaccumulation) {
+    let cells = match prepare(
+        rows,
+        cols,
+        codes,
+        accumulation,
+        outlets,
+        place,
+        subaccumulation,
+    ) {
         Ok(cells) => cells,
         Err(refusal) => return refused(refusal),
     };
     if work.len() < NUMBERS_EACH * cells as usize {
         return refused(Refusal::WorkingSpace);
     }
+    let grid = Grid { rows, cols, codes };
     by_stack(
         edition,
-        rows,
-        cols,
-        codes,
+        grid,
         outlets,
         subaccumulation,
         dropping,

@@ -12,6 +12,11 @@ returns-in_err-check_grid c =
     refused a.rows a.cols a.codes.now a.accumulation.now (told _ c.from_residual.result is ∙ c.in_err-check_grid.ensures)
     (not_0 _ c.from_residual.result is)
 
+pub invariant_of-fill : goal.invariant_of-fill
+invariant_of-fill c =
+    let a = c.args in
+    record { lent = (fillable a.rows a.cols a.codes.now a.accumulation.now (sym c.in_ok-check_grid.ensures)).grid }
+
 pub fill-requires : goal.fill-requires
 fill-requires c =
     let a = c.args in

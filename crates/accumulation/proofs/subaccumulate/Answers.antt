@@ -17,6 +17,13 @@ returns-in_err-check_outlets c =
     refused (catchment a.rows a.cols a.codes.now a.accumulation.now a.outlets.now) a.subaccumulation.now
     (told _ c.from_residual.result is ∙ c.in_err-check_outlets.ensures) (not_0 _ c.from_residual.result is)
 
+pub invariant_of-fill : goal.invariant_of-fill
+invariant_of-fill c =
+    let a = c.args in
+    let f = passed_fillable (catchment a.rows a.cols a.codes.now a.accumulation.now a.outlets.now) a.subaccumulation.now
+    c.in_ok-check_outlets.ensures refl in
+    record { lent = f.grid }
+
 pub fill-requires : goal.fill-requires
 fill-requires c =
     let a = c.args in

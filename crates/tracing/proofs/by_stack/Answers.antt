@@ -16,7 +16,7 @@ make_ready-requires c =
     let a = c.args in
     let n = c.requires.cells_value in record {
       fresh = c.requires.fresh;
-      places = own_place a.rows a.cols a.codes.now a.outlets.now a.place c.requires.chosen.in_list
+      places = own_place a.grid.rows a.grid.cols a.grid.codes.now a.outlets.now a.place c.requires.chosen.in_list
           (omega (arith, n.0, n.1));
     }
 
@@ -25,19 +25,19 @@ list_at-p-requires c =
     let a = c.args in
     let r = c.make_ready.ensures in
     let n = c.requires.cells_value in
-    let k = own_work a.rows a.cols a.codes.now a.outlets.now a.place r in record {
+    let k = own_work a.grid.rows a.grid.cols a.grid.codes.now a.outlets.now a.place r in record {
       ready = r.ready;
-      chosen = (c.requires.chosen, own_met a.rows a.cols a.codes.now a.outlets.now a.place r);
+      chosen = (c.requires.chosen, own_met a.grid.rows a.grid.cols a.grid.codes.now a.outlets.now a.place r);
       place_in_bounds = omega (arith, n.0, n.1, k.same_length);
     }
 
-pub overflow_mul-rows : goal.overflow_mul-rows
-overflow_mul-rows c = omega (arith, few c.requires.fresh)
+pub overflow_mul-grid : goal.overflow_mul-grid
+overflow_mul-grid c = omega (arith, few c.requires.fresh)
 
 pub clear-requires : goal.clear-requires
 clear-requires c =
     let a = c.args in
-    let k = kept_then (own_work a.rows a.cols a.codes.now a.outlets.now a.place c.make_ready.ensures)
+    let k = kept_then (own_work a.grid.rows a.grid.cols a.grid.codes.now a.outlets.now a.place c.make_ready.ensures)
     c.list_at-p.ensures.only in
     omega (arith, c.requires.cells_value.1, k.same_length)
 
@@ -45,7 +45,7 @@ pub returns : goal.returns
 returns c =
     let a = c.args in
     let n = c.requires.cells_value in
-    let k = kept_then (own_work a.rows a.cols a.codes.now a.outlets.now a.place c.make_ready.ensures)
+    let k = kept_then (own_work a.grid.rows a.grid.cols a.grid.codes.now a.outlets.now a.place c.make_ready.ensures)
     c.list_at-p.ensures.only in
     let only = subst (λ (m : ℕ). Kept (3 * m) a.work.now c.list_at-p.new.work) (sym n.0) k in record {
       lists_and_clears = record {

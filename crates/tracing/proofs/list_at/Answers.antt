@@ -17,8 +17,8 @@ before_end : {held cells : ℕ} → held ≡ cells → {t : Tracing} {old : List
     → Told t cells old p new → kept new (3 * held) p.paths ≡ start_cells t
 before_end e {t} {old} {p} {new} f = subst (λ (n : ℕ). kept new (3 * n) p.paths ≡ start_cells t) (sym e) f.starts
 
-pub bounds-subaccumulation-outlets : goal.bounds-subaccumulation-outlets
-bounds-subaccumulation-outlets c = omega (arith, (own_cells c.requires.ready c.requires.chosen.0).0)
+pub bounds-filled-at : goal.bounds-filled-at
+bounds-filled-at c = omega (arith, (own_cells c.requires.ready c.requires.chosen.0).0)
 
 pub search_at-p-requires : goal.search_at-p-requires
 search_at-p-requires c = c.requires

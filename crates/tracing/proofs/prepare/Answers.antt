@@ -16,6 +16,13 @@ returns-in_err-check_place c =
     is_barred (catchment a.rows a.cols a.codes.now a.accumulation.now a.outlets.now) a.place a.subaccumulation.now _
     c.from_residual.result c.from_residual.ensures.1 c.in_err-check_place.ensures
 
+pub invariant_of-fill : goal.invariant_of-fill
+invariant_of-fill c =
+    let a = c.args in
+    let f = place_fillable (catchment a.rows a.cols a.codes.now a.accumulation.now a.outlets.now) a.subaccumulation.now refl
+    a.place c.in_ok-check_place.ensures in
+    record { lent = f.grid }
+
 pub fill-requires : goal.fill-requires
 fill-requires c =
     let a = c.args in
@@ -25,8 +32,11 @@ fill-requires c =
 pub offset_bounds-outlets-place : goal.offset_bounds-outlets-place
 offset_bounds-outlets-place c =
     let a = c.args in
-    omega (arith, place_small (catchment a.rows a.cols a.codes.now a.accumulation.now a.outlets.now)
-    a.subaccumulation.now refl a.place c.in_ok-check_place.ensures)
+    omega (
+      arith,
+      place_small (catchment a.rows a.cols a.codes.now a.accumulation.now a.outlets.now)
+          a.subaccumulation.now refl a.place c.in_ok-check_place.ensures,
+    )
 
 pub bounds-outlets-place : goal.bounds-outlets-place
 bounds-outlets-place c =

@@ -29,6 +29,13 @@ returns-then-cells-gt4096 c =
     recursion_19 (call_of a.edition a.rows a.cols a.codes.now a.accumulation.now a.outlets.now a.place a.dropping) (lent a.subaccumulation.now a.starts.now) c.in-Ok.ensures.0
     c.in-Ok-prepare.ensures (omega arith) c.refused-then-cells-gt4096.ensures
 
+pub invariant_of-grid : goal.invariant_of-grid
+invariant_of-grid c =
+    let a = c.args in
+    let p = c.in-Ok-prepare.ensures in
+    let fresh = prepared_fresh {c = (catchment a.rows a.cols a.codes.now a.accumulation.now a.outlets.now)} refl p in
+    record { lent = fresh.grid_lent }
+
 pub by_recursion-requires : goal.by_recursion-requires
 by_recursion-requires c =
     let a = c.args in
