@@ -4,24 +4,25 @@
 ghost use Rattle.std.specs.Prelude.{◌≡◌, map, ◌*◌, ◌≤◌, length, get_or};
 ghost use Rattle.lists.specs.Lists.{greatest_of};
 ghost use Rattle.lists.specs.Slices.{Within};
-ghost use Rattle.ground.specs.Grid.{grid_of};
 ghost use Rattle.search.specs.Tracing.{numbers_each};
 ghost use Rattle.answers.specs.Refusals.{refusal_number};
-ghost use Rattle.notes.specs.Notes.{edition_number};
 ghost use Rattle.answers.specs.Entries.{catchment};
 ghost use Rattle.alloutlets.specs.AllOutlets.{most_cells, traced_all, lent_all, TracesAll};
-ghost use Rattle.noting.specs.Noting.{Fresh};
-ghost use Rattle.passes.specs.Passes.{Traceable, Searchable};
-ghost use Rattle.tracingall.specs.Searching.{SearchesAll};
+ghost use Rattle.moves.specs.Grids.{ground_of};
+ghost use Rattle.noting.specs.Grids.{Fresh};
+ghost use Rattle.passes.specs.Grids.{Traceable, Searchable};
+ghost use Rattle.tracingall.specs.Grids.{SearchesAll};
 
 use accumulation::subaccumulate;
 use alloutlets::TracedAll;
 use answers::Refusal;
 use lists::clear;
+use moves::Grid;
 use notes::Edition;
 use noting::{make_plain, make_ready};
 use passes::{count_all, list_all};
 use stack::NUMBERS_EACH;
+use upstream::FilledGrid;
 
 // The most cells that an outlet of the list has, in a grid that holds the subaccumulation.
 fn most_cells(outlets: &[u32], subaccumulation: &[u32]) -> u32
@@ -38,25 +39,20 @@ fn most_cells(outlets: &[u32], subaccumulation: &[u32]) -> u32
 
 // Past 23: all outlets are counted, and listed if there is room for all; then the working numbers are cleared.
 fn search_all(
+    filled: FilledGrid,
     edition: Edition,
-    rows: usize,
-    cols: usize,
-    codes: &[u8],
-    outlets: &[u32],
-    subaccumulation: &[u32],
     end: usize,
     starts: &mut [u32],
     counts: &mut [u32],
     work: &mut [u32],
 ) -> TracedAll
-    requires searchable { Searchable (edition_number edition) rows cols codes.now outlets.now subaccumulation.now work.old }
-    requires end_value { (end ≡ numbers_each * most_cells (grid_of rows cols codes.now) outlets.now)
-        × (length outlets.now ≤ length counts.old) }
-    ensures { SearchesAll (edition_number edition) (grid_of rows cols codes.now) outlets.now
-        starts.old counts.old work.old result starts.new counts.new
-        work.new }
+    requires searchable { Searchable edition filled work.old }
+    requires end_value { (end ≡ numbers_each * most_cells (ground_of filled.grid) filled.outlets.now)
+        × (length filled.outlets.now ≤ length counts.old) }
+    ensures { SearchesAll edition filled.entry.grid filled.entry.outlets.now starts.old counts.old work.old result
+        starts.new counts.new work.new }
 {
-    let s = count_all(edition, rows, cols, codes, outlets, subaccumulation, work);
+    let s = count_all(filled, edition, work);
     if starts.len() < s.paths as usize {
         clear(end, work);
         return TracedAll {
@@ -65,17 +61,7 @@ fn search_all(
             dropped: s.dropped,
         };
     }
-    list_all(
-        edition,
-        rows,
-        cols,
-        codes,
-        outlets,
-        subaccumulation,
-        starts,
-        counts,
-        work,
-    );
+    list_all(filled, edition, starts, counts, work);
     clear(end, work);
     TracedAll {
         number: 0,
@@ -88,9 +74,7 @@ fn search_all(
 // it was.
 fn search_by(
     edition: Edition,
-    rows: usize,
-    cols: usize,
-    codes: &[u8],
+    grid: Grid,
     outlets: &[u32],
     subaccumulation: &mut [u32],
     end: usize,
@@ -98,39 +82,30 @@ fn search_by(
     counts: &mut [u32],
     work: &mut [u32],
 ) -> TracedAll
-    requires fresh { Fresh rows cols codes.now outlets.now subaccumulation.old }
-    requires traceable { Traceable rows cols codes.now outlets.now work.old }
-    requires end_value { (end ≡ numbers_each * most_cells (grid_of rows cols codes.now) outlets.now)
+    requires fresh { Fresh grid outlets.now subaccumulation.old }
+    requires traceable { Traceable grid outlets.now work.old }
+    requires end_value { (end ≡ numbers_each * most_cells (ground_of grid) outlets.now)
         × (length outlets.now ≤ length counts.old) }
-    ensures searches_all { SearchesAll (edition_number edition) (grid_of rows cols codes.now) outlets.now
-        starts.old counts.old work.old result starts.new counts.new
-        work.new }
+    ensures searches_all { SearchesAll edition grid.entry outlets.now starts.old counts.old work.old result
+        starts.new counts.new work.new }
     ensures subaccumulation_unchanged { subaccumulation.new ≡ subaccumulation.old }
 {
     make_ready(
         edition,
-        rows,
-        cols,
-        codes,
+        grid,
         outlets,
         0,
         outlets.len(),
         subaccumulation,
         work,
     );
-    let traced = search_all(
-        edition,
-        rows,
-        cols,
-        codes,
+    let filled = FilledGrid {
+        grid,
         outlets,
         subaccumulation,
-        end,
-        starts,
-        counts,
-        work,
-    );
-    make_plain(edition, rows * cols, subaccumulation);
+    };
+    let traced = search_all(filled, edition, end, starts, counts, work);
+    make_plain(edition, grid.rows * grid.cols, subaccumulation);
     traced
 }
 
@@ -168,9 +143,7 @@ pub fn trace_all(
         Ok(edition) => edition,
         Err(refusal) => return refused_all(refusal),
     };
-    if let Err(refusal) = subaccumulate(
-        rows, cols, codes, accumulation, outlets, subaccumulation,
-    ) {
+    if let Err(refusal) = subaccumulate(rows, cols, codes, accumulation, outlets, subaccumulation) {
         return refused_all(refusal);
     }
     let end = NUMBERS_EACH * most_cells(outlets, subaccumulation) as usize;
@@ -180,11 +153,10 @@ pub fn trace_all(
     if counts.len() < outlets.len() {
         return refused_all(Refusal::Room);
     }
+    let grid = Grid { rows, cols, codes };
     search_by(
         edition,
-        rows,
-        cols,
-        codes,
+        grid,
         outlets,
         subaccumulation,
         end,

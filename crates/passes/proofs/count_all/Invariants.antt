@@ -8,5 +8,5 @@ use Rattle.passes.proofs.count_all.Given as goal
 
 abbrev pub invariant-loop-place : goal.invariant-loop-place
 invariant-loop-place l =
-    Counting (edition_number l.edition) (grid_of l.rows l.cols l.codes) l.outlets l.place l.s
-    × WorkKept (grid_of l.rows l.cols l.codes) l.outlets l.initial.work l.work
+    Counting (edition_number l.edition) (grid_of l.filled.grid.rows l.filled.grid.cols l.filled.grid.codes.now) l.filled.outlets.now l.place l.s
+    × WorkKept (grid_of l.filled.grid.rows l.filled.grid.cols l.filled.grid.codes.now) l.filled.outlets.now l.initial.work l.work

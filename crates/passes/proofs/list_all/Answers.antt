@@ -17,7 +17,7 @@ use Rattle.passes.proofs.list_all.Goals as goal
 pub loop-j-init : goal.loop-j-init
 loop-j-init c =
     let a = c.args in
-    (listing_none (edition_number a.edition) (grid_of a.rows a.cols a.codes.now) a.outlets.now, kept_all)
+    (listing_none (edition_number a.edition) (grid_of a.filled.grid.rows a.filled.grid.cols a.filled.grid.codes.now) a.filled.outlets.now, kept_all)
 
 pub list_at-p-requires : goal.list_at-p-requires
 list_at-p-requires c =
@@ -29,7 +29,7 @@ overflow_add-total c =
     let a = c.args in
     omega (
       arith,
-      fits_all (edition_number a.edition) (grid_of a.rows a.cols a.codes.now) a.outlets.now c.loop-j-test.true
+      fits_all (edition_number a.edition) (grid_of a.filled.grid.rows a.filled.grid.cols a.filled.grid.codes.now) a.filled.outlets.now c.loop-j-test.true
           c.requires.outlets_in_bounds.0
           c.loop-j.invariant.0,
       c.list_at-p.ensures.counted.count,
@@ -40,18 +40,18 @@ pub loop-j-preserved : goal.loop-j-preserved
 loop-j-preserved c =
     let l = c.loop-j in
     let a = c.args in
-    let g = grid_of a.rows a.cols a.codes.now in
+    let g = grid_of a.filled.grid.rows a.filled.grid.cols a.filled.grid.codes.now in
     let e = edition_number a.edition in
-    let cs = starts_to e g a.outlets.now (get_or a.outlets.now l.j 0) in
+    let cs = starts_to e g a.filled.outlets.now (get_or a.filled.outlets.now l.j 0) in
     let h = c.loop-j-test.true in
     let r = c.list_at-p.ensures in
-    let long = long_starts e g a.outlets.now (get_or a.outlets.now l.j 0) in (
-      listing_more e g a.outlets.now h c.requires.outlets_in_bounds.0 l.invariant.0 c.list_at-p.result.paths
+    let long = long_starts e g a.filled.outlets.now (get_or a.filled.outlets.now l.j 0) in (
+      listing_more e g a.filled.outlets.now h c.requires.outlets_in_bounds.0 l.invariant.0 c.list_at-p.result.paths
           (put_part l.starts cs l.total
           (omega (
             arith,
             long,
-            within e g a.outlets.now h c.requires.outlets_in_bounds.0 l.invariant.0,
+            within e g a.filled.outlets.now h c.requires.outlets_in_bounds.0 l.invariant.0,
           ))
           r.lists)
           r.counted.count,
@@ -71,11 +71,11 @@ pub returns : goal.returns
 returns c =
     let l = c.loop-j in
     let a = c.args in
-    let g = grid_of a.rows a.cols a.codes.now in
+    let g = grid_of a.filled.grid.rows a.filled.grid.cols a.filled.grid.codes.now in
     let e = edition_number a.edition in
     let h = c.loop-j-test.false in
     record {
-      lists = all_listed e g a.outlets.now h l.invariant.0 c.requires.outlets_in_bounds.0;
-      counted = all_counted e g a.outlets.now h l.invariant.0 c.requires.outlets_in_bounds.2;
+      lists = all_listed e g a.filled.outlets.now h l.invariant.0 c.requires.outlets_in_bounds.0;
+      counted = all_counted e g a.filled.outlets.now h l.invariant.0 c.requires.outlets_in_bounds.2;
       kept = l.invariant.1;
     }

@@ -9,6 +9,6 @@ use Rattle.passes.proofs.list_all.Given as goal
 
 abbrev pub invariant-loop-j : goal.invariant-loop-j
 invariant-loop-j l =
-    Listing (edition_number l.edition) (grid_of l.rows l.cols l.codes) l.outlets l.initial.starts l.initial.counts
+    Listing (edition_number l.edition) (grid_of l.filled.grid.rows l.filled.grid.cols l.filled.grid.codes.now) l.filled.outlets.now l.initial.starts l.initial.counts
     l.j l.total l.starts l.counts
-    × WorkKept (grid_of l.rows l.cols l.codes) l.outlets l.initial.work l.work
+    × WorkKept (grid_of l.filled.grid.rows l.filled.grid.cols l.filled.grid.codes.now) l.filled.outlets.now l.initial.work l.work

@@ -16,15 +16,15 @@ clear-requires c =
 pub returns-then-starts-s : goal.returns-then-starts-s
 returns-then-starts-s c =
     let a = c.args in
-    let g = grid_of a.rows a.cols a.codes.now in
-    rw c.number.ensures (searched_21 g a.outlets.now (edition_number a.edition) c.count_all-s.ensures.counts refl
-    (clears_all g a.outlets.now c.requires.end_value.0 c.requires.searchable.list.room c.count_all-s.ensures.kept c.clear.ensures)
+    let g = grid_of a.filled.grid.rows a.filled.grid.cols a.filled.grid.codes.now in
+    rw c.number.ensures (searched_21 g a.filled.outlets.now (edition_number a.edition) c.count_all-s.ensures.counts refl
+    (clears_all g a.filled.outlets.now c.requires.end_value.0 c.requires.searchable.list.room c.count_all-s.ensures.kept c.clear.ensures)
     c.if-starts-s.true)
 
 pub list_all-requires : goal.list_all-requires
 list_all-requires c =
     let a = c.args in
-    let g = grid_of a.rows a.cols a.codes.now in record {
+    let g = grid_of a.filled.grid.rows a.filled.grid.cols a.filled.grid.codes.now in record {
       searchable = record {
         ready = c.requires.searchable.ready;
         met = c.requires.searchable.met;
@@ -34,7 +34,7 @@ list_all-requires c =
         omega (
           arith,
           c.if-starts-s.false,
-          total g a.outlets.now (edition_number a.edition) c.count_all-s.ensures.counts
+          total g a.filled.outlets.now (edition_number a.edition) c.count_all-s.ensures.counts
               refl,
         ),
         c.count_all-s.ensures.few_paths,
@@ -55,8 +55,8 @@ clear-requires-2 c =
 pub returns : goal.returns
 returns c =
     let a = c.args in
-    let g = grid_of a.rows a.cols a.codes.now in
+    let g = grid_of a.filled.grid.rows a.filled.grid.cols a.filled.grid.codes.now in
     let k = kept_then c.count_all-s.ensures.kept c.list_all.ensures.kept in
-    searched_0 g a.outlets.now (edition_number a.edition) c.count_all-s.ensures.counts refl
-    (clears_all g a.outlets.now c.requires.end_value.0 c.requires.searchable.list.room k c.clear-2.ensures) c.if-starts-s.false
+    searched_0 g a.filled.outlets.now (edition_number a.edition) c.count_all-s.ensures.counts refl
+    (clears_all g a.filled.outlets.now c.requires.end_value.0 c.requires.searchable.list.room k c.clear-2.ensures) c.if-starts-s.false
     c.list_all.ensures

@@ -47,6 +47,13 @@ returns-then-counts-outlets c =
     all_23 a.edition (catchment a.rows a.cols a.codes.now a.accumulation.now a.outlets.now) (lent_all a.subaccumulation.now a.starts.now a.counts.now a.work.now) c.in-Ok.ensures.0 s refl
     (omega (arith, most)) c.if-counts-outlets.true c.refused_all-then-counts-outlets.ensures
 
+pub invariant_of-grid : goal.invariant_of-grid
+invariant_of-grid c =
+    let a = c.args in
+    let s = c.in_default.ensures in
+    let fresh = all_fresh {c = (catchment a.rows a.cols a.codes.now a.accumulation.now a.outlets.now)} refl s refl in
+    record { lent = fresh.grid_lent }
+
 pub search_by-requires : goal.search_by-requires
 search_by-requires c =
     let a = c.args in
