@@ -20,11 +20,11 @@ use Rattle.moves.specs.Lent.{LentGrid}
 use Rattle.moves.specs.Moves.{lead_of, InReach, Spotted}
 use Rattle.moves.specs.Walks.{Flows, FlowsTo}
 use Rattle.moves.proofs.Codes.{Leads, leads}
-use Rattle.moves.proofs.Spots.{size, inside, spot_inside}
+use Rattle.moves.proofs.Spots.{inside, spot_inside}
 use Rattle.moves.proofs.Flowing.{move_in_reach, flows_nowhere, flows_off, flows_null, flows_on}
 use Rattle.downstream.specs.Offsets.{place_by, offset_of, offsets_of}
 use Rattle.downstream.specs.Flowing.{Numbered, FlowsOn}
-use Rattle.downstream.proofs.Steps.{offset_at, offset_small, number_after}
+use Rattle.downstream.proofs.Steps.{offset_at, number_after}
 
 -- a cell by its number
 pub numbered : {rows cols at row col : ℕ} {codes offsets : List ℕ} → LentGrid rows cols codes

@@ -3,18 +3,15 @@
 use mathlib.Core.Path.{◌≡◌, refl, ap}
 use mathlib.Core.Bool.{Bool, true, false, cond}
 use mathlib.Core.Option.{Option, none, some}
-use Prim.Native.Nat.{ℕ, zero, suc, ◌+◌, ◌*◌, ◌≤◌, ◌<◌}
+use Prim.Native.Nat.{ℕ, zero, suc, ◌+◌, ◌*◌, ◌<◌}
 use native.Mathlib.Nat.{add-mul}
 use native.Mathlib.Omega.{arith}
 use lib.ListN.{get_or}
 use lib.Dec.{ltb}
 use Rattle.ground.specs.Compass.{Dir, E, SE, S, SW, W, NW, N, NE, place_of, Shift, less, as_is, more, shifted, row_shift}
 use Rattle.ground.specs.Compass.{col_shift}
-use Rattle.ground.specs.Tables.{table1, dir_of}
 use Rattle.ground.specs.Grid.{cell_at}
-use Rattle.ground.proofs.Tables.{table_facts}
 use Rattle.moves.specs.Moves.{shift_number}
-use Rattle.moves.proofs.Spots.{shift_le}
 use Rattle.downstream.specs.Offsets.{place_by, offset_of, offsets_of}
 
 pub place_small : (d : Dir) → place_of d < 8
@@ -41,15 +38,6 @@ offset_at cols W = refl
 offset_at cols NW = refl
 offset_at cols N = refl
 offset_at cols NE = refl
-
--- no offset is far
-pub offset_small : {cols : ℕ} → cols ≤ 4096 → (d : Dir) → offset_of cols d ≤ 2 * 4096 + 2
-offset_small {cols} h d = omega (arith, shift_le (col_shift d), go (row_shift d))
-  where
-    go : (s : Shift) → shift_number s * cols ≤ 2 * 4096
-    go less = omega arith
-    go as_is = omega arith
-    go more = omega arith
 
 -- a row or a column after a shift
 pub shift_is : (s : Shift) (bound x z : ℕ) → shifted s bound x ≡ some z → z + 1 ≡ x + shift_number s

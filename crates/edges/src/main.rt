@@ -3,8 +3,8 @@
 #![tactic(auto)]
 
 use accumulation::accumulate;
-use answers::{Answer, Traced};
-use drawing::{draw, drawing_number};
+use answers::{Answer, Traced, number_told};
+use drawing::{check_drawing, draw};
 use std::io;
 use tracing::{trace_by_recursion, trace_by_stack};
 
@@ -49,7 +49,7 @@ fn trace_row(
     let mut subaccumulation = [0u32; 8192];
     let mut starts = [9u32; 3];
     let mut work = [0u32; 12291];
-    accumulate(rows, 4096, codes, &mut accumulation);
+    let _ = accumulate(rows, 4096, codes, &mut accumulation);
     show(
         rt,
         trace_by_recursion(
@@ -109,8 +109,8 @@ fn draw_once(
     start: u32,
     path: &mut [u32],
 ) -> io::Result<()> {
-    let number = drawing_number(rows, 5, codes, accumulation, outlets, place, start, path);
-    print!(rt; "drawing {number} part")?;
+    let checked = check_drawing(rows, 5, codes, accumulation, outlets, place, start, path);
+    print!(rt; "drawing {} part", number_told(checked))?;
     let part = draw(rows, 5, codes, accumulation, outlets, place, start, path);
     numbers(rt, part)?;
     print!(rt; " places")?;
@@ -160,7 +160,7 @@ fn drawings(rt: &impl Print) -> io::Result<()> {
     let mut accumulation = [0u32; 5];
     let mut just = [9u32; 3];
     let mut path = [9u32; 5];
-    accumulate(1, 5, &codes, &mut accumulation);
+    let _ = accumulate(1, 5, &codes, &mut accumulation);
     refused_grids(rt, &codes, &accumulation)?;
     refused_outlets(rt, &codes, &accumulation)?;
     refused_paths(rt, &codes, &accumulation)?;

@@ -5,9 +5,8 @@ use mathlib.Core.Option.{Option as Maybe, none, some}
 use Prim.Native.Nat.{ℕ}
 use Rattle.std.specs.Prelude.{Option, Some, None}
 use Rattle.moves.specs.declared.Move.{Move}
-use Rattle.ground.specs.Compass.{Dir, E, SE, S, SW, W, NW, N, NE, step_of}
+use Rattle.ground.specs.Compass.{Dir, step_of}
 use Rattle.ground.specs.Tables.{table1, dir_of}
-use Rattle.ground.proofs.Tables.{table_facts}
 use Rattle.moves.specs.Moves.{move_of, lead_by, lead_of, LeadsBy, step_by}
 
 -- a code that leads on has a direction

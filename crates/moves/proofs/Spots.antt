@@ -12,7 +12,7 @@ use Rattle.std.specs.Prelude.{Option, Some, None}
 use Rattle.std.proofs.lemmas.Option.{none-some}
 use Rattle.cells.specs.declared.Cell.{Cell}
 use Rattle.moves.specs.declared.Neighbour.{Neighbour}
-use Rattle.ground.specs.Compass.{Dir, NE, Shift, less, as_is, more, shifted, row_shift, col_shift}
+use Rattle.ground.specs.Compass.{Dir, Shift, less, as_is, more, shifted, row_shift, col_shift}
 use Rattle.ground.specs.Grid.{grid_of, cell_at, neighbour}
 use Rattle.ground.proofs.Cells.{neighbour_at}
 use Rattle.moves.specs.Lent.{Sides, OnCell}

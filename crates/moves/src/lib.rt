@@ -128,7 +128,8 @@ impl Walk {
     }
 }
 
-// A neighbour: the change of row and of column, each plus one, and the code that points back at the cell.
+// A neighbour: the change of row and of column, each plus one, and the code that points back at the cell. One type with
+// Move, generic in what is carried, would be no plainer: its last field would have no name that fits a step and a code.
 #[derive(Clone, Copy)]
 pub struct Neighbour {
     pub row: usize,
