@@ -1,16 +1,9 @@
-// Small functions over numbers, lists and lent slices, on which every other crate rests.
+// Small functions over lists and lent slices.
 #![tactic(auto)]
 
-ghost use Rattle.std.specs.Prelude.{◌≡◌, ◌≤◌, ◌<◌, ◌^◌, length, drop};
+ghost use Rattle.std.specs.Prelude.{◌≡◌, ◌≤◌, length, drop};
 ghost use Rattle.lists.specs.Lists.{member};
 ghost use Rattle.lists.specs.Slices.{Cleared};
-
-// A number of 32 bits as an index.
-pub fn index_of(x: u32) -> usize
-    ensures { (result ≡ x) × (result < 2 ^ 32) }
-{
-    x as usize
-}
 
 // Clears the first n places.
 pub fn clear(n: usize, list: &mut [u32])
