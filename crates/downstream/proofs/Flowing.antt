@@ -99,16 +99,6 @@ module _ {rows cols row col at : ℕ} {codes offsets : List ℕ} (n : Numbered r
               (ap (λ (k : Move). k.col) led.is_move)) ∙ rw e) in
               omega (arith, q, offset_is, n.is_at)
 
-          pub number_fits : at + get_or offsets place 0 < 4096 * 4096 + (2 * 4096 + 3)
-          number_fits = omega (
-            arith,
-            offset_is,
-            offset_small n.on.grid.sides.cols_small led.dir,
-            n.is_at,
-            inside n.on,
-            size n.on.grid.sides,
-          )
-
           abbrev to : ℕ
           to = at + get_or offsets place 0 - (cols + 1)
 

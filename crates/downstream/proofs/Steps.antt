@@ -17,25 +17,6 @@ use Rattle.moves.specs.Moves.{shift_number}
 use Rattle.moves.proofs.Spots.{shift_le}
 use Rattle.downstream.specs.Offsets.{place_by, offset_of, offsets_of}
 
--- what is none of the first seven of our codes has the last place
-pub last_place : {k : ℕ} → (k ≡ 1 → ⊥) → (k ≡ 2 → ⊥) → (k ≡ 4 → ⊥) → (k ≡ 8 → ⊥) → (k ≡ 16 → ⊥) → (k ≡ 32 → ⊥)
-    → (k ≡ 64 → ⊥) → 7 ≡ place_by (dir_of table1 k)
-last_place {k} e se s sw w nw n = go (dir_of table1 k) refl
-  where
-    is : (d : Dir) → dir_of table1 k ≡ some d → k ≡ table1.code_of d
-    is = (table_facts table1).only k
-
-    go : (o : Option Dir) → dir_of table1 k ≡ o → 7 ≡ place_by (dir_of table1 k)
-    go none q = rw q
-    go (some E) q = absurd (e (is E q))
-    go (some SE) q = absurd (se (is SE q))
-    go (some S) q = absurd (s (is S q))
-    go (some SW) q = absurd (sw (is SW q))
-    go (some W) q = absurd (w (is W q))
-    go (some NW) q = absurd (nw (is NW q))
-    go (some N) q = absurd (n (is N q))
-    go (some NE) q = rw q
-
 pub place_small : (d : Dir) → place_of d < 8
 place_small E = omega arith
 place_small SE = omega arith

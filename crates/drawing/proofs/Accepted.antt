@@ -5,7 +5,7 @@ use mathlib.Core.Bool.{Bool, true, false}
 use mathlib.Core.List.{List, []}
 use Prim.Native.Nat.{ℕ, zero, suc, ◌-◌, ◌^◌, ◌≤◌, ◌<◌}
 use native.Mathlib.Omega.{arith}
-use lib.ListN.{length, get_or, take, drop}
+use lib.ListN.{length, get_or, take, drop, length-take}
 use lib.Seq.{take_at}
 use lib.Dec.{eqb}
 use borrow.Author.Tests.{eqb-true, ne_eqb}
@@ -140,5 +140,5 @@ module _ (q : Drawing) (lent : List ℕ) where
             let none : drawn_part q lent ≡ [] = rw e in
             ap (λ (n : ℕ). take n new) (draws.counts ∙ ap length none) ∙ sym none
 
-    pub part_long : count ≡ length (take count new)
-    part_long = draws.counts ∙ sym (ap length part_taken)
+    pub part_fits : count ≤ length new
+    part_fits = omega (arith, draws.counts, ap length part_taken, length-take count new)

@@ -27,7 +27,7 @@ fn put_word(text: &mut [u8], at: usize, word: &[u8]) -> usize
     to
 }
 
-// A number's decimal digits.
+// A number's decimal digits. By recursion: `write!` promises its text only where it answers Ok, and `Appends` holds always.
 fn put_number(text: &mut [u8], at: usize, n: u32) -> usize
     ensures { Appends (decimal n) at text.old result text.new }
 {

@@ -103,19 +103,6 @@ module _ {rows cols row col down right : ℕ} where
 
 -- ---- the neighbours in order
 
--- the last is NE
-pub last_dir : (k : ℕ) → (k ≡ 0 → ⊥) → (k ≡ 1 → ⊥) → (k ≡ 2 → ⊥) → (k ≡ 3 → ⊥) → (k ≡ 4 → ⊥) → (k ≡ 5 → ⊥)
-    → (k ≡ 6 → ⊥) → dir_at k ≡ NE
-last_dir zero a b c d e f g = absurd (a refl)
-last_dir (suc zero) a b c d e f g = absurd (b refl)
-last_dir (suc (suc zero)) a b c d e f g = absurd (c refl)
-last_dir (suc (suc (suc zero))) a b c d e f g = absurd (d refl)
-last_dir (suc (suc (suc (suc zero)))) a b c d e f g = absurd (e refl)
-last_dir (suc (suc (suc (suc (suc zero))))) a b c d e f g = absurd (f refl)
-last_dir (suc (suc (suc (suc (suc (suc zero)))))) a b c d e f g = absurd (g refl)
-last_dir (suc (suc (suc (suc (suc (suc (suc zero))))))) a b c d e f g = refl
-last_dir (suc (suc (suc (suc (suc (suc (suc (suc k)))))))) a b c d e f g = refl
-
 module _ {rows cols : ℕ} {codes : List ℕ} {row col : ℕ} (on : OnCell rows cols codes row col)
     (k : ℕ) {n : Neighbour} (is-n : n ≡ neighbour_of (dir_at k)) where
   pub row_is : n.row ≡ (neighbour_of (dir_at k)).row

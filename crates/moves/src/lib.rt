@@ -28,6 +28,7 @@ fn by(row: usize, col: usize, step: Step) -> Option<Move>
 }
 
 // The step of a code. A null cell and a pond lead nowhere, as does a byte that is no code.
+#[tactic(auto, unfolding(crate::specs::Moves::lead_of, ground::specs::Tables::dir_of))]
 pub fn lead_of(code: u8) -> Option<Move>
     ensures { result ≡ lead_of code }
 {

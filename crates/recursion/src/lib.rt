@@ -2,18 +2,17 @@
 #![tactic(auto)]
 
 ghost use Rattle.std.specs.Prelude.{◌≡◌, ◌+◌, ◌*◌, ◌≤◌, ◌<◌, ◌^◌, length};
+ghost use Rattle.notes.specs.Notes.{edition_number};
 ghost use Rattle.upstream.specs.Ready.{Ready, OnGround, cells_at, met_in};
 ghost use Rattle.recursion.specs.Tracing.{turn_at, TurnReady, NextTurn, VisitedAt, Traced};
 ghost use Rattle.recursion.specs.Tracing.{CellReady, InflowsReady, CellTraced, InflowsTraced};
 
 use lengths::{Length, Step};
-use moves::Spot;
-use notes::{cells_held, is_met};
+use notes::{Edition, cells_held, is_met};
 use progress::{Progress, begin, drop_cells, is_dropped, visit};
 use upstream::{is_inner, step_at, tributary};
 
-// Where the search turns to next: neighbour k, at a row and a column, with so many cells, and its step down. No
-// neighbour is left where k is 8.
+// Where the search turns to next: neighbour k, at a row and a column, with so many cells, and its step down.
 #[derive(Clone, Copy)]
 pub struct Turn {
     pub k: usize,
@@ -37,7 +36,7 @@ fn turn_at(cols: usize, subaccumulation: &[u32], k: usize, row: usize, col: usiz
     }
 }
 
-// The next neighbour, from k on, that flows in and is no outlet.
+// The next neighbour, from k on, that flows in and is no outlet; none where none is left.
 fn next_turn(
     rows: usize,
     cols: usize,
@@ -47,36 +46,25 @@ fn next_turn(
     row: usize,
     col: usize,
     k: usize,
-) -> Turn
+) -> Option<Turn>
     requires { TurnReady rows cols codes.now subaccumulation.now row col k }
     ensures { NextTurn rows cols codes.now outlets.now subaccumulation.now
         row col k result }
 {
     let inner = is_inner(rows, cols, row, col);
-    let mut n = k;
-    while n < 8 {
-        let at = n;
-        n += 1;
-        if let Spot::On { row: r, col: c } = tributary(
-            inner, rows, cols, codes, outlets, row, col, at,
-        ) {
-            return turn_at(cols, subaccumulation, at, r, c);
+    for n in k..8 {
+        if let Some(cell) = tributary(inner, rows, cols, codes, outlets, row, col, n) {
+            return Some(turn_at(cols, subaccumulation, n, cell.row, cell.col));
         }
     }
-    Turn {
-        k: 8,
-        row,
-        col,
-        cells: 0,
-        step: Step::Straight,
-    }
+    None
 }
 
 // A cell is visited at its length, which is met if the cell's word says so by the edition.
 fn visit_at(
     cols: usize,
     subaccumulation: &[u32],
-    edition: u32,
+    edition: Edition,
     row: usize,
     col: usize,
     len: Length,
@@ -85,7 +73,7 @@ fn visit_at(
 ) -> Progress
     requires col_in_bounds { (row * cols + col < length subaccumulation.now) × (row * cols + col < 2 ^ 24) }
     requires paths_bound { (p.paths < 4096) × (p.visited < 4096) }
-    ensures { VisitedAt edition subaccumulation.now (row * cols + col) len p
+    ensures { VisitedAt (edition_number edition) subaccumulation.now (row * cols + col) len p
         found.old result found.new }
 {
     let at = row * cols + col;
@@ -101,7 +89,7 @@ fn trace_cell(
     codes: &[u8],
     outlets: &[u32],
     subaccumulation: &[u32],
-    edition: u32,
+    edition: Edition,
     dropping: bool,
     row: usize,
     col: usize,
@@ -112,7 +100,7 @@ fn trace_cell(
     requires ready { Ready rows cols codes.now outlets.now subaccumulation.now }
     requires cell_ready { CellReady rows cols codes.now outlets.now row col len p found.old }
     ensures { CellTraced rows cols codes.now outlets.now
-        (met_in edition subaccumulation.now) dropping row col len p
+        (met_in (edition_number edition) subaccumulation.now) dropping row col len p
         found.old result found.new }
 {
     let q = visit_at(cols, subaccumulation, edition, row, col, len, p, found);
@@ -141,7 +129,7 @@ fn trace_inflows(
     codes: &[u8],
     outlets: &[u32],
     subaccumulation: &[u32],
-    edition: u32,
+    edition: Edition,
     dropping: bool,
     row: usize,
     col: usize,
@@ -153,16 +141,14 @@ fn trace_inflows(
     requires ready { Ready rows cols codes.now outlets.now subaccumulation.now }
     requires inflows_ready { InflowsReady rows cols codes.now outlets.now row col len k p found.old }
     ensures { InflowsTraced rows cols codes.now outlets.now
-        (met_in edition subaccumulation.now) dropping row col len k p
+        (met_in (edition_number edition) subaccumulation.now) dropping row col len k p
         found.old result found.new }
 {
-    let t = next_turn(rows, cols, codes, outlets, subaccumulation, row, col, k);
-    if 8 <= t.k {
+    let Some(t) = next_turn(rows, cols, codes, outlets, subaccumulation, row, col, k) else {
         return p;
-    }
+    };
     let left = t.k + 1;
-    let step = t.step;
-    let longer = len.plus(step);
+    let longer = len.plus(t.step);
     if is_dropped(dropping, longer, t.cells, p) {
         let q = drop_cells(p, t.cells);
         return trace_inflows(
@@ -221,7 +207,7 @@ pub fn trace(
     codes: &[u8],
     outlets: &[u32],
     subaccumulation: &[u32],
-    edition: u32,
+    edition: Edition,
     dropping: bool,
     row: usize,
     col: usize,
@@ -231,7 +217,7 @@ pub fn trace(
     requires on_ground { OnGround rows cols codes.now row col }
     requires col_bound { (cells_at rows cols codes.now outlets.now row col ≤ 4096) × (length found.old ≡ 4096) }
     ensures { Traced rows cols codes.now outlets.now
-        (met_in edition subaccumulation.now) dropping row col result
+        (met_in (edition_number edition) subaccumulation.now) dropping row col result
         found.new }
 {
     let none = Length::none();

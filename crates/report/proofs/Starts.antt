@@ -1,4 +1,4 @@
--- The first places of a list, and the lines of starts, one more at a time.
+-- The lines of starts, one more at a time.
 -- Assumes nothing.
 use mathlib.Core.Path.{◌≡◌, refl, sym, ap, ◌∙◌}
 use mathlib.Core.Logic.{◌⊎◌, inl, inr}
@@ -12,15 +12,6 @@ use Rattle.cells.specs.Numbers.{RowAndColumn}
 use Rattle.cells.proofs.Numbers.{is_row_lem, is_col}
 use Rattle.lines.specs.Line.{path_line}
 use Rattle.report.specs.Desk.{path_lines}
-
--- as many places as are asked for or as there are, whichever is less
-pub first_taken : (n : ℕ) (list : List ℕ) {k m : ℕ} → m ≡ n
-    → (k ≤ m) × (k ≤ length list) × ((k ≡ m) ⊎ (k ≡ length list))
-    → take k list ≡ take n list
-first_taken n list {k} {m} e (low, fits, is) = elim is [
-  | inl k-is ↦ ap (λ (i : ℕ). take i list) (k-is ∙ e)
-  | inr k-is ↦ take_all k list (omega arith) ∙ sym (take_all n list (omega arith))
-]
 
 after : (cols : ℕ) (ss : List ℕ) (s : ℕ)
     → path_lines cols (ss ++ (s ∷ [])) ≡ path_lines cols ss ++ path_line (s / cols) (s % cols)

@@ -1,9 +1,6 @@
 -- `gathering::gather` meets its contract: the newest listed cell is always the next to have its tributaries listed.
 -- Assumes nothing.
-use Prim.Native.Nat.{◌+◌, ◌*◌}
-use Rattle.gathering.specs.Gathering.{Gathers}
-use Rattle.gathering.proofs.Gathering.{some_room, gathered_first, can_follow}
-use Rattle.gathering.proofs.Gathering.{gathered_next, gathers}
+use Rattle.gathering.proofs.Gathering.{some_room, gathered_first, can_follow, gathered_next, gathers}
 use Rattle.gathering.proofs.gather.Goals as goal
 
 pub bounds-list-0 : goal.bounds-list-0
@@ -22,15 +19,5 @@ loop-k-preserved c =
     gathered_next c.requires c.loop-k.invariant c.loop-k-test.true c.newest_first-cell.ensures
     c.list_inflows-n.ensures
 
--- what is gathered at the end
-end : (c : goal.After-loop-k) → let a = c.args in
-    Gathers a.rows a.cols a.codes.now a.outlets.now (a.row * a.cols + a.col) a.grid.now
-    a.list.now c.loop-k.n c.loop-k.grid c.loop-k.list
-end c = gathers c.requires c.loop-k.invariant
-    c.loop-k-test.false
-
-pub shape_of-list : goal.shape_of-list
-shape_of-list c = (end c).kept.same_length
-
 pub returns : goal.returns
-returns c = end c
+returns c = gathers c.requires c.loop-k.invariant c.loop-k-test.false

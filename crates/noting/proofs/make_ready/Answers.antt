@@ -7,12 +7,9 @@ use native.Mathlib.Omega.{arith}
 use lib.ListN.{length}
 use Rattle.lists.proofs.Kept.{kept_all, kept_then}
 use Rattle.notes.proofs.Notes.{not_first}
-use Rattle.noting.proofs.Readying.{Marked, ListKept, list_next, few, outlets_within, ready_plain, marked_begin}
+use Rattle.noting.proofs.Readying.{Marked, ListKept, list_next, outlets_within, ready_plain, marked_begin}
 use Rattle.noting.proofs.Readying.{can_note, marked_next, ready_marked}
 use Rattle.noting.proofs.make_ready.Goals as goal
-
-pub overflow_mul-rows : goal.overflow_mul-rows
-overflow_mul-rows c = omega (arith, few c.requires.fresh)
 
 pub note_outlets-requires : goal.note_outlets-requires
 note_outlets-requires c =
@@ -34,15 +31,6 @@ loop-j-preserved c =
       kept_then i.1 d.notes.kept,
       list_next a.rows a.cols a.codes.now a.outlets.now c.loop-j.auto.j i.2 d.kept,
     )
-
-pub shape_of-subaccumulation : goal.shape_of-subaccumulation
-shape_of-subaccumulation c =
-    c.loop-j.invariant.1.same_length ∙ c.note_outlets.ensures.kept.same_length
-
-pub shape_of-list : goal.shape_of-list
-shape_of-list c =
-    (c.loop-j.invariant.2 (length c.args.list.now)
-    (λ j a b. c.requires.places.room j a (omega arith))).same_length
 
 pub returns-then-eq : goal.returns-then-eq
 returns-then-eq c =

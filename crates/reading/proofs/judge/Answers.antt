@@ -40,12 +40,6 @@ returns-then-not-are_sheet_sides c =
     (sym c.is_record.ensures ∙ c.if-not-is_record.false) c.number-rows.ensures.same c.number-cols.ensures.same in
     no_sides b a.grid a.list (sym c.are_sheet_sides.ensures ∙ c.if-not-are_sheet_sides.true)
 
-pub overflow_mul-rows : goal.overflow_mul-rows
-overflow_mul-rows c =
-    let s = sized c.number-rows.result c.number-cols.result
-    (sym c.are_sheet_sides.ensures ∙ c.if-not-are_sheet_sides.false) in
-    omega (arith, s.few_cells)
-
 pub returns-then-grid-rows : goal.returns-then-grid-rows
 returns-then-grid-rows c =
     let a = c.args in

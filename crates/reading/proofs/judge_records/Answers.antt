@@ -1,7 +1,6 @@
 -- `reading::judge_records` meets its contract: by the rows, and where they pass by what follows them.
 -- Assumes nothing.
 use mathlib.Core.Path.{◌∙◌}
-use native.Mathlib.Omega.{arith}
 use Rattle.std.proofs.lemmas.Result.{err_from_is_err_and}
 use Rattle.reading.proofs.Judged.{records_refused, records_read}
 use Rattle.reading.proofs.judge_records.Goals as goal

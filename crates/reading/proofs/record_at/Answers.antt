@@ -7,7 +7,7 @@ use Prim.Native.Nat.{ℕ, ◌+◌, ◌≤◌}
 use native.Mathlib.Omega.{arith}
 use lib.ListN.{length, drop}
 use Rattle.spelling.specs.Reading.{is_outlet}
-use Rattle.reading.proofs.Steps.{record_fits, ends, more_after_end, not_outlet, beyond_rows, beyond_cols}
+use Rattle.reading.proofs.Steps.{record_fits, more_after_end, not_outlet, beyond_rows, beyond_cols}
 use Rattle.reading.proofs.Steps.{outlet_passes}
 use Rattle.reading.proofs.record_at.Goals as goal
 use Rattle.reading.proofs.record_at.Goals.{then-number-rows-via-then-number-rows, then-number-rows-via-else-number-rows+then-number-cols}
@@ -20,11 +20,6 @@ returns-then-file-here-ne2 c =
     let a = c.args in
     more_after_end a.file.now a.rows a.cols a.here.at (sym c.is_record.ensures ∙ c.if-is_record.true)
     c.if-file-here-ne2.true
-
-pub returns-then-is_record : goal.returns-then-is_record
-returns-then-is_record c =
-    let a = c.args in
-    ends a.file.now a.here.at (sym c.is_record.ensures ∙ c.if-is_record.true) c.if-file-here-ne2.false
 
 pub returns-then-not-is_record : goal.returns-then-not-is_record
 returns-then-not-is_record c =

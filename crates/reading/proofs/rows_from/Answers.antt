@@ -2,19 +2,12 @@
 -- Assumes nothing.
 use mathlib.Core.Path.{◌≡◌, ◌∙◌}
 use Prim.Native.Nat.{◌+◌, ◌-◌, ◌*◌}
-use native.Mathlib.Nat.{suc-mul, zero-mul, sub-zero}
+use native.Mathlib.Nat.{suc-mul}
 use native.Mathlib.Numerals.{add-one}
 use native.Mathlib.Omega.{arith}
-use borrow.Author.Rules.{rules}
 use Rattle.std.proofs.lemmas.Result.{err_from_is_err_and}
 use Rattle.reading.proofs.Walking.{rows_on, rows_stop, rows_done}
-use borrow.Author.Rules.{rules}
 use Rattle.reading.proofs.rows_from.Goals as goal
-
-pub loop-row-init : goal.loop-row-init
-loop-row-init c =
-    let a = c.args in
-    (omega (arith, zero-mul (4 + a.cols)), search rules, rw (sub-zero a.rows))
 
 pub loop-row-preserved : goal.loop-row-preserved
 loop-row-preserved c =

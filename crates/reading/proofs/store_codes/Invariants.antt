@@ -2,8 +2,8 @@
 -- all.
 -- Assumes nothing.
 use mathlib.Core.Path.{◌≡◌}
-use Prim.Native.Nat.{◌+◌, ◌-◌, ◌*◌, ◌≤◌}
-use lib.ListN.{length, drop}
+use Prim.Native.Nat.{◌+◌, ◌-◌, ◌*◌}
+use lib.ListN.{drop}
 use lib.Seq.{sets}
 use Rattle.spelling.specs.Reading.{codes_from}
 use Rattle.reading.proofs.store_codes.Given as goal

@@ -4,7 +4,6 @@ use mathlib.Core.Path.{sym, ◌∙◌}
 use mathlib.Core.Bool.{true, false}
 use native.Mathlib.Omega.{arith}
 use Rattle.spelling.specs.Content.{content}
-use Rattle.spelling.proofs.Records.{sized}
 use Rattle.writing.proofs.Contents.{other_sides, few_codes, other_code, many_outlets, by_cells}
 use Rattle.writing.proofs.check_content.Goals as goal
 
@@ -14,12 +13,6 @@ returns-then-not-are_sheet_sides c =
     let lent = content a.rows a.cols a.codes.now a.outlets.now in
     other_sides lent
     (sym c.are_sheet_sides.ensures ∙ c.if-not-are_sheet_sides.true)
-
-pub overflow_mul-cells : goal.overflow_mul-cells
-overflow_mul-cells c =
-    let a = c.args in
-    let s = sized a.rows a.cols (sym c.are_sheet_sides.ensures ∙ c.if-not-are_sheet_sides.false) in
-    omega (arith, s.few_cells)
 
 pub returns-then-codes-cells : goal.returns-then-codes-cells
 returns-then-codes-cells c =

@@ -4,7 +4,6 @@ use mathlib.Core.Path.{refl, ◌∙◌}
 use native.Mathlib.Nat.{mod-le, div-le_self}
 use native.Mathlib.Omega.{arith}
 use lib.ListN.{get_or}
-use borrow.Author.Rules.{rules}
 use Rattle.cells.proofs.Numbers.{is_row_lem, is_col}
 use Rattle.spelling.specs.Format.{outlet_records}
 use Rattle.writing.proofs.Puts.{puts_none, puts_then, outlets_next, outlets_land}

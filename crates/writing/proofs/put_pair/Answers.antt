@@ -1,8 +1,5 @@
 -- `writing::put_pair` meets its contract: a mark, a number, and another after them.
 -- Assumes nothing.
-use mathlib.Core.Path.{sym}
-use mathlib.Core.List.{append_assoc}
-use Rattle.spelling.specs.Format.{two_bytes}
 use Rattle.writing.proofs.Puts.{puts_then}
 use Rattle.writing.proofs.put_pair.Goals as goal
 

@@ -1,8 +1,7 @@
 -- `reading::Cursor::is_record` meets its contract.
 -- Assumes nothing.
-use mathlib.Core.Path.{◌≡◌, ◌∙◌}
-use native.Mathlib.Omega.{arith}
-use lib.ListN.{length, drop}
+use mathlib.Core.Path.{◌∙◌}
+use lib.ListN.{drop}
 use Rattle.std.proofs.lemmas.List.{take_rest}
 use Rattle.reading.proofs.Bytes.{no_room, by_mark}
 use Rattle.reading.proofs.Cursor.is_record.Goals as goal
