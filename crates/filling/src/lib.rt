@@ -14,8 +14,8 @@ ghost use Rattle.filling.specs.Filling.{Looked, Down, Passed, Fills};
 
 use cells::{Cell, split_number};
 use counting::{INFLOW, count_all};
-use downstream::{Downstream, downstream_of, offsets};
-use lists::{clear, index_of};
+use downstream::{NumberedCell, downstream_of, offsets};
+use lists::clear;
 
 // The flag of an outlet.
 const FLAG: u32 = 1073741824;
@@ -29,24 +29,15 @@ fn flag_at(rows: usize, cols: usize, codes: &[u8], outlets: &[u32], words: &mut 
     ensures keeps { Kept (rows * cols) words.old words.new }
 {
     let outlet = outlets[place];
-    let at = index_of(outlet);
-    let own = words[at];
-    if own >= FLAG {
+    let at = outlet as usize;
+    if words[at] >= FLAG {
         return;
     }
-    words[at] = own + FLAG;
+    words[at] += FLAG;
     let steps = offsets(cols);
     let cell = split_number(cols, outlet);
-    match downstream_of(rows, cols, codes, &steps, cell.row, cell.col, at) {
-        Downstream::End => return,
-        Downstream::To {
-            row: _,
-            col: _,
-            at: to,
-        } => {
-            let below = words[to];
-            words[to] = below - INFLOW;
-        }
+    if let Some(below) = downstream_of(rows, cols, codes, &steps, cell.row, cell.col, at) {
+        words[below.at] -= INFLOW;
     }
 }
 
@@ -58,10 +49,8 @@ fn flag(rows: usize, cols: usize, codes: &[u8], outlets: &[u32], words: &mut [u3
         (length outlets.now) }
     ensures keeps { Kept (rows * cols) words.old words.new }
 {
-    let mut j: usize = 0;
-    while j < outlets.len() {
+    for j in 0..outlets.len() {
         flag_at(rows, cols, codes, outlets, words, j);
-        j += 1;
     }
 }
 
@@ -78,7 +67,7 @@ fn pass_down(
     at: usize,
     looked: usize,
     done: u32,
-) -> Downstream
+) -> Option<NumberedCell>
     requires fillable_at { FillableAt rows cols codes.now outlets.now steps.now words.old row col at }
     requires down { Down (grid_of rows cols codes.now) outlets.now words.old looked at done }
     ensures { Passed (grid_of rows cols codes.now) outlets.now looked (done + 1)
@@ -86,28 +75,15 @@ fn pass_down(
 {
     let word = words[at];
     if word >= FLAG {
-        return Downstream::End;
+        return None;
     }
-    match downstream_of(rows, cols, codes, steps, row, col, at) {
-        Downstream::End => Downstream::End,
-        Downstream::To {
-            row: r,
-            col: c,
-            at: to,
-        } => {
-            let below = words[to];
-            let sum = below + word - INFLOW;
-            words[to] = sum;
-            if sum % FLAG >= INFLOW {
-                return Downstream::End;
-            }
-            Downstream::To {
-                row: r,
-                col: c,
-                at: to,
-            }
-        }
+    let below = downstream_of(rows, cols, codes, steps, row, col, at)?;
+    let sum = words[below.at] + word - INFLOW;
+    words[below.at] = sum;
+    if sum % FLAG >= INFLOW {
+        return None;
     }
+    Some(below)
 }
 
 // The way down from a headwater. It hands back how many cells are done.
@@ -121,7 +97,7 @@ fn walk_down(
     row: usize,
     col: usize,
     at: usize,
-    done: u32,
+    mut done: u32,
 ) -> u32
     requires fillable_at { FillableAt rows cols codes.now outlets.now steps.now words.old row col at }
     requires down { Down (grid_of rows cols codes.now) outlets.now words.old (at + 1) at done }
@@ -130,21 +106,14 @@ fn walk_down(
     ensures keeps { Kept (rows * cols) words.old words.new }
 {
     let looked = at + 1;
-    let mut n = done;
-    let mut s = Downstream::To { row, col, at };
-    loop {
-        match s {
-            Downstream::End => return n,
-            Downstream::To {
-                row: r,
-                col: c,
-                at: x,
-            } => {
-                s = pass_down(rows, cols, codes, outlets, steps, words, r, c, x, looked, n);
-                n += 1;
-            }
-        }
+    let mut next = Some(NumberedCell { row, col, at });
+    while let Some(here) = next {
+        next = pass_down(
+            rows, cols, codes, outlets, steps, words, here.row, here.col, here.at, looked, done,
+        );
+        done += 1;
     }
+    done
 }
 
 // Looks at a cell, and goes down from it if it is a headwater. It hands back how many cells are done.
@@ -184,17 +153,14 @@ fn look_at_all(rows: usize, cols: usize, codes: &[u8], outlets: &[u32], words: &
         (rows * cols) result }
     ensures keeps { Kept (rows * cols) words.old words.new }
 {
-    let n = rows * cols;
     let steps = offsets(cols);
-    let mut done: u32 = 0;
+    let mut done = 0;
     let mut p = Cell { row: 0, col: 0 };
-    let mut at: usize = 0;
-    while at < n {
+    for at in 0..rows * cols {
         done = look_at(
             rows, cols, codes, outlets, &steps, words, p.row, p.col, at, done,
         );
         p = p.next(cols);
-        at += 1;
     }
     done
 }
@@ -205,12 +171,8 @@ fn strip(n: usize, outlets: &[u32], words: &mut [u32])
     ensures { Stripped n outlets.now (length outlets.now) words.old
         words.new }
 {
-    let mut j: usize = 0;
-    while j < outlets.len() {
-        let at = index_of(outlets[j]);
-        let word = words[at];
-        words[at] = word % FLAG;
-        j += 1;
+    for outlet in outlets {
+        words[*outlet as usize] %= FLAG;
     }
 }
 
@@ -231,7 +193,7 @@ pub fn fill(
     count_all(rows, cols, codes, subaccumulation);
     flag(rows, cols, codes, outlets, subaccumulation);
     let done = look_at_all(rows, cols, codes, outlets, subaccumulation);
-    if index_of(done) != n {
+    if done as usize != n {
         clear(n, subaccumulation);
         return false;
     }

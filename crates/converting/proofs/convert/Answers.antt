@@ -39,7 +39,8 @@ overflow_mul-rows c =
     let a = c.args in
     let call = conversion a.from a.to a.rows a.cols a.codes.now in
     let source = c.codes-source.ensures ∙ ap codes_of c.in_ok-try_from.ensures.1 in
-    omega (arith, fits call a.converted.now c.in_ok-try_from.ensures.0 c.in_ok-try_from-2.ensures.0 (c.in_ok-check_grid_in.ensures (table_of a.from) source))
+    let passes = c.in_ok-check_grid_in.ensures (table_of a.from) source in
+    omega (arith, fits call a.converted.now c.in_ok-try_from.ensures.0 c.in_ok-try_from-2.ensures.0 passes)
 
 pub rewrite-requires : goal.rewrite-requires
 rewrite-requires c =
@@ -47,7 +48,8 @@ rewrite-requires c =
     let call = conversion a.from a.to a.rows a.cols a.codes.now in
     let source = c.codes-source.ensures ∙ ap codes_of c.in_ok-try_from.ensures.1 in
     let target = c.codes-target.ensures ∙ ap codes_of c.in_ok-try_from-2.ensures.1 in
-    readable call a.converted.now c.in_ok-try_from.ensures.0 c.in_ok-try_from-2.ensures.0 (c.in_ok-check_grid_in.ensures (table_of a.from) source) refl source target
+    let passes = c.in_ok-check_grid_in.ensures (table_of a.from) source in
+    readable call a.converted.now c.in_ok-try_from.ensures.0 c.in_ok-try_from-2.ensures.0 passes refl source target
 
 pub returns : goal.returns
 returns c =
@@ -55,4 +57,6 @@ returns c =
     let call = conversion a.from a.to a.rows a.cols a.codes.now in
     let source = c.codes-source.ensures ∙ ap codes_of c.in_ok-try_from.ensures.1 in
     let target = c.codes-target.ensures ∙ ap codes_of c.in_ok-try_from-2.ensures.1 in
-    told call a.converted.now c.in_ok-try_from.ensures.0 c.in_ok-try_from-2.ensures.0 (c.in_ok-check_grid_in.ensures (table_of a.from) source) source target c.rewrite.ensures
+    let ok = c.in_ok-check_grid_in in
+    told call a.converted.now c.in_ok-try_from.ensures.0 c.in_ok-try_from-2.ensures.0
+    (ok.ensures (table_of a.from) source) source target c.rewrite.ensures

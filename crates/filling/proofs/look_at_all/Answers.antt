@@ -7,8 +7,8 @@ use Rattle.filling.proofs.Kept.{fillable_kept}
 use Rattle.filling.proofs.Scans.{scan_begin, scan_row, scan_on, scan_end}
 use Rattle.filling.proofs.look_at_all.Goals as goal
 
-pub overflow_mul-n : goal.overflow_mul-n
-overflow_mul-n c = omega (arith, size c.requires.fillable.grid.sides)
+pub overflow_mul-at-end : goal.overflow_mul-at-end
+overflow_mul-at-end c = omega (arith, size c.requires.fillable.grid.sides)
 
 pub offsets-steps-requires : goal.offsets-steps-requires
 offsets-steps-requires c = c.requires.fillable.grid.sides.cols_small
@@ -39,9 +39,6 @@ next-p-requires c =
       v.cell.col_in,
       c.requires.fillable.grid.sides.cols_small,
     )
-
-pub loop-at-smaller : goal.loop-at-smaller
-loop-at-smaller c = omega (arith, c.loop-at-test.true)
 
 pub loop-at-preserved : goal.loop-at-preserved
 loop-at-preserved c =
