@@ -1,5 +1,5 @@
--- Has a cell a neighbour that is off the grid or not noted as inside? By one direction after the other, and at the
--- border. Assumes nothing.
+-- Has a cell a neighbour that is off the grid or not noted as inside? By the directions in order, and at the border.
+-- Assumes nothing.
 use mathlib.Core.Path.{◌≡◌, refl, sym, ap, ap₂, ◌∙◌}
 use mathlib.Core.Bool.{Bool, true, ◌||◌, or-true}
 use mathlib.Core.Logic.{inl, inr}
@@ -54,11 +54,13 @@ module _ (g : Grid) (a b : List ℕ) (x : ℕ)
 
 -- ---- AN INNER CELL, by the directions in order
 
+-- the word of a neighbour tells whether it is outside
 pub beside_word : {rows cols row col k : ℕ} {codes : List ℕ} {r : Beside} → LiesBeside rows cols codes row col k r
     → (grid : List ℕ) → ltb (get_or grid r.at 0) (2 ^ 31)
     ≡ is_outside grid (neighbour (grid_of rows cols codes) (row * cols + col) (dir_at k))
 beside_word p grid = ap (is_outside grid) (sym p.is_there)
 
+-- and one that is outside is enough
 pub beside_any : (g : Grid) (grid : List ℕ) (x : ℕ) {b : Bool}
     → b ≡ list_any (λ k. is_outside grid (neighbour g x (dir_at k))) (range_with_len 0 8) → b ≡ beside_outside g grid x
 unfolding beside_outside
@@ -84,6 +86,7 @@ module _ {rows cols row col : ℕ} {codes : List ℕ} (on : OnCell rows cols cod
   last_col : cols ≤ col + 1 → true ≡ beside_outside (grid_of rows cols codes) grid (row * cols + col)
   last_col h = border E (high_col on.col_in (omega arith))
 
+  -- so has each that is not an inner one
   pub off_inner : (Inner rows cols row col → ⊥) → true ≡ beside_outside (grid_of rows cols codes) grid (row * cols + col)
   off_inner f = elim (dec_lt row 1) [
     | yes h ↦ first_row h

@@ -1,8 +1,9 @@
--- The words of the lent subaccumulation grid while a tracing is at work: a cell's subaccumulation, at most 2²⁴, and above
--- it three notes, that the cell is an outlet (2²⁹), enclosed by its subwatershed (2³⁰), inside the one at hand (2³¹). An
--- enclosed cell is one of a subwatershed and not on its divide.
+-- The editions by their numbers; and the words of the lent subaccumulation grid while a tracing is at work: a cell's
+-- subaccumulation, at most 2²⁴, and above it three notes, that the cell is an outlet (2²⁹), enclosed by its subwatershed
+-- (2³⁰), inside the one at hand (2³¹). An enclosed cell is one of a subwatershed and not on its divide.
 -- Assumes nothing.
-use Rattle.std.specs.Prelude.{◌≡◌, Bool, true, false, cond, Result, MatchResult, List, ℕ, ◌+◌, ◌*◌, ◌/◌, ◌%◌, ◌≤◌, ◌<◌, ◌^◌, length, get_or, eqb, ltb}
+use Rattle.std.specs.Prelude.{◌≡◌, Bool, true, false, cond, Result, MatchResult, List, ℕ, ◌+◌, ◌*◌, ◌/◌, ◌%◌, ◌≤◌, ◌<◌}
+use Rattle.std.specs.Prelude.{◌^◌, length, get_or, eqb, ltb}
 use Rattle.search.specs.Editions.{is_edition}
 use Rattle.answers.specs.declared.Refusal.{Refusal}
 use Rattle.answers.specs.Refusals.{refusal_number}

@@ -30,4 +30,5 @@ pub returns : goal.returns
 returns c =
     let a = c.args in
     let e : c.loop-number.number-index ≡ a.n = omega (arith, length-take-le a.n a.list.now c.requires.on_list.within) in
-    subst (λ (k : ℕ). NotesCells a.rows a.cols a.codes.now k a.list.now a.grid.now c.loop-number.grid) e c.loop-number.invariant
+    subst (λ (k : ℕ). NotesCells a.rows a.cols a.codes.now k a.list.now a.grid.now c.loop-number.grid) e
+    c.loop-number.invariant

@@ -6,5 +6,5 @@ use Rattle.gathering.specs.Gathering.{ListsFrom}
 use Rattle.gathering.proofs.list_inflows.Given as goal
 
 abbrev pub invariant-loop-k : goal.invariant-loop-k
-invariant-loop-k l =
-    ListsFrom l.rows l.cols l.codes l.outlets l.row l.col (take l.k dirs) l.n l.initial.grid l.initial.list l.end l.grid l.list
+invariant-loop-k l = ListsFrom l.rows l.cols l.codes l.outlets l.row l.col (take l.k dirs) l.n l.initial.grid
+    l.initial.list l.end l.grid l.list

@@ -8,4 +8,5 @@ use Rattle.noting.proofs.make_ready.Given as goal
 abbrev pub invariant-loop-j : goal.invariant-loop-j
 invariant-loop-j l =
     Marked l.rows l.cols l.codes l.outlets l.first l.j l.subaccumulation
-    × Kept (l.rows * l.cols) l.initial.subaccumulation l.subaccumulation × ListKept l.rows l.cols l.codes l.outlets l.first l.j l.initial.list l.list
+    × Kept (l.rows * l.cols) l.initial.subaccumulation l.subaccumulation
+    × ListKept l.rows l.cols l.codes l.outlets l.first l.j l.initial.list l.list

@@ -34,7 +34,8 @@ pub trace_inflows-returns-in_default : goal.trace_inflows-returns-in_default
 trace_inflows-returns-in_default t c =
     let a = c.args in
     let r = c.requires in
-    inflows_done r.ready (met_in (edition_number a.edition) a.subaccumulation.now) a.dropping r.inflows_ready c.in_default.ensures
+    inflows_done r.ready (met_in (edition_number a.edition) a.subaccumulation.now) a.dropping r.inflows_ready
+    c.in_default.ensures
 
 pub trace_inflows-is_dropped-requires : goal.trace_inflows-is_dropped-requires
 trace_inflows-is_dropped-requires t c =
@@ -58,13 +59,14 @@ pub trace_inflows-trace_inflows-requires : goal.trace_inflows-trace_inflows-requ
 trace_inflows-trace_inflows-requires t c =
     let a = c.args in
     let r = c.requires in
-    let n = c.in-Some in (
+    let n = c.in-Some in
+    let met = met_in (edition_number a.edition) a.subaccumulation.now in (
       omega (arith, c.decreases, n.ensures.from, n.ensures.last),
       (
         r.ready,
         subst (λ q. InflowsReady a.rows a.cols a.codes.now a.outlets.now a.row a.col a.len (n.t.k + 1) q
             a.found.now) (sym c.drop_cells-q.ensures)
-            (drop_ready r.ready (met_in (edition_number a.edition) a.subaccumulation.now) a.dropping r.inflows_ready n.ensures c.plus-longer.ensures c.is_dropped.ensures),
+            (drop_ready r.ready met a.dropping r.inflows_ready n.ensures c.plus-longer.ensures c.is_dropped.ensures),
       ),
     )
 
@@ -105,12 +107,13 @@ pub trace_inflows-trace_inflows-requires-2 : goal.trace_inflows-trace_inflows-re
 trace_inflows-trace_inflows-requires-2 t c =
     let a = c.args in
     let r = c.requires in
-    let n = c.in-Some in (
+    let n = c.in-Some in
+    let met = met_in (edition_number a.edition) a.subaccumulation.now in (
       omega (arith, c.decreases, n.ensures.from, n.ensures.last),
       (
         r.ready,
-        rest_ready r.ready (met_in (edition_number a.edition) a.subaccumulation.now) a.dropping r.inflows_ready n.ensures c.plus-longer.ensures c.is_dropped.ensures c.if-is_dropped.false
-            c.trace_cell-q.ensures,
+        rest_ready r.ready met a.dropping r.inflows_ready n.ensures c.plus-longer.ensures c.is_dropped.ensures
+            c.if-is_dropped.false c.trace_cell-q.ensures,
       ),
     )
 
@@ -119,5 +122,6 @@ trace_inflows-returns t c =
     let a = c.args in
     let r = c.requires in
     let i = c.trace_inflows-2 in
-    rest_traced r.ready (met_in (edition_number a.edition) a.subaccumulation.now) a.dropping r.inflows_ready c.in-Some.ensures c.plus-longer.ensures c.is_dropped.ensures c.if-is_dropped.false c.trace_cell-q.ensures
-    i.result i.new.found i.ensures
+    let met = met_in (edition_number a.edition) a.subaccumulation.now in
+    rest_traced r.ready met a.dropping r.inflows_ready c.in-Some.ensures c.plus-longer.ensures c.is_dropped.ensures
+    c.if-is_dropped.false c.trace_cell-q.ensures i.result i.new.found i.ensures

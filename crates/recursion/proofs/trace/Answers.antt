@@ -18,6 +18,6 @@ returns c =
     let i = c.trace_inflows in
     let cell = outlet_ready r.ready r.on_ground c.begin.ensures c.none-none.ensures c.args.found.now r.col_bound.0
     r.col_bound.1 in
-    traced r.ready r.on_ground c.begin.ensures c.none-none.ensures (met_in (edition_number c.args.edition) c.args.subaccumulation.now)
-    c.args.dropping c.args.found.now i.result i.new.found
-    (cell_traced r.ready cell c.visit_at-p.ensures c.args.dropping i.result i.new.found i.ensures)
+    traced r.ready r.on_ground c.begin.ensures c.none-none.ensures
+    (met_in (edition_number c.args.edition) c.args.subaccumulation.now) c.args.dropping c.args.found.now i.result
+    i.new.found (cell_traced r.ready cell c.visit_at-p.ensures c.args.dropping i.result i.new.found i.ensures)
