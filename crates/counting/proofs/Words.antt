@@ -5,7 +5,7 @@ use mathlib.Core.Bool.{Bool, true, false, cond}
 use mathlib.Core.List.{List, [], ◌∷◌}
 use mathlib.Core.Option.{Option as Maybe, none, some}
 use Rattle.std.specs.Prelude.{Option, Some, None, is_some}
-use Prim.Native.Nat.{ℕ, zero, suc, ◌+◌, ◌*◌, ◌≤◌, ◌<◌, ◌^◌}
+use Prim.Native.Nat.{ℕ, zero, suc, ◌+◌, ◌*◌, ◌<◌, ◌^◌}
 use native.Mathlib.Omega.{arith}
 use Rattle.std.specs.List.{count_by}
 use Rattle.std.proofs.Math.Nat.{suc-ne-zero}
@@ -17,7 +17,7 @@ use Rattle.ground.specs.Grid.{Grid, Link, grid_of, cell_count, ground, neighbour
 use Rattle.ground.specs.Grid.{inflows_from, inflows}
 use Rattle.ground.proofs.Cells.{ground_inflows, null_at, ground_at}
 use Rattle.cells.specs.declared.Cell.{Cell}
-use Rattle.moves.specs.Moves.{spot_cell, dir_at}
+use Rattle.moves.specs.Moves.{dir_at}
 use Rattle.moves.specs.Walks.{if_flows_in, inflow_from, FlowsFrom}
 use Rattle.inflows.specs.Values.{flows_at}
 use Rattle.counting.specs.Counting.{word_by, counted_word}

@@ -20,11 +20,11 @@ use Rattle.moves.specs.Lent.{LentGrid}
 use Rattle.moves.specs.Moves.{lead_of, InReach, Spotted}
 use Rattle.moves.specs.Walks.{Flows, FlowsTo}
 use Rattle.moves.proofs.Codes.{Leads, leads}
-use Rattle.moves.proofs.Spots.{size, inside, spot_inside}
+use Rattle.moves.proofs.Spots.{inside, spot_inside}
 use Rattle.moves.proofs.Flowing.{move_in_reach, flows_nowhere, flows_off, flows_null, flows_on}
 use Rattle.downstream.specs.Offsets.{place_by, offset_of, offsets_of}
 use Rattle.downstream.specs.Flowing.{Numbered, FlowsOn}
-use Rattle.downstream.proofs.Steps.{offset_at, offset_small, number_after}
+use Rattle.downstream.proofs.Steps.{offset_at, number_after}
 
 -- a cell by its number
 pub numbered : {rows cols at row col : ℕ} {codes offsets : List ℕ} → LentGrid rows cols codes
@@ -98,16 +98,6 @@ module _ {rows cols row col at : ℕ} {codes offsets : List ℕ} (n : Numbered r
               (sym (p.is_cell led.dir (ap (λ (k : Move). k.row) led.is_move)
               (ap (λ (k : Move). k.col) led.is_move)) ∙ rw e) in
               omega (arith, q, offset_is, n.is_at)
-
-          pub number_fits : at + get_or offsets place 0 < 4096 * 4096 + (2 * 4096 + 3)
-          number_fits = omega (
-            arith,
-            offset_is,
-            offset_small n.on.grid.sides.cols_small led.dir,
-            n.is_at,
-            inside n.on,
-            size n.on.grid.sides,
-          )
 
           abbrev to : ℕ
           to = at + get_or offsets place 0 - (cols + 1)

@@ -18,6 +18,7 @@ pub struct NumberedCell {
 }
 
 // The place of a code's direction in the order of the neighbours; the last where the code has none.
+#[tactic(auto, unfolding(ground::specs::Tables::dir_of))]
 pub fn place_of(code: u8) -> usize
     ensures { result ≡ place_by (dir_of table1 code) }
 {

@@ -5,25 +5,9 @@ use mathlib.Core.Option.{Option as Maybe, none, some}
 use Prim.Native.Nat.{ℕ}
 use Rattle.std.specs.Prelude.{Option, Some, None}
 use Rattle.moves.specs.declared.Move.{Move}
-use Rattle.ground.specs.Compass.{Dir, E, SE, S, SW, W, NW, N, NE, step_of}
+use Rattle.ground.specs.Compass.{Dir, step_of}
 use Rattle.ground.specs.Tables.{table1, dir_of}
-use Rattle.ground.proofs.Tables.{table_facts}
 use Rattle.moves.specs.Moves.{move_of, lead_by, lead_of, LeadsBy, step_by}
-
--- what is none of our eight codes points in no direction
-pub no_dir : {k : ℕ} → (k ≡ 1 → ⊥) → (k ≡ 2 → ⊥) → (k ≡ 4 → ⊥) → (k ≡ 8 → ⊥) → (k ≡ 16 → ⊥) → (k ≡ 32 → ⊥)
-    → (k ≡ 64 → ⊥) → (k ≡ 128 → ⊥) → dir_of table1 k ≡ none
-no_dir {k} e se s sw w nw n ne = (table_facts table1).nowhere k other
-  where
-    other : (d : Dir) → k ≡ table1.code_of d → ⊥
-    other E = e
-    other SE = se
-    other S = s
-    other SW = sw
-    other W = w
-    other NW = nw
-    other N = n
-    other NE = ne
 
 -- a code that leads on has a direction
 pub record Leads (code : ℕ) (m : Move) : Type 0 where

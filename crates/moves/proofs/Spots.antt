@@ -12,7 +12,7 @@ use Rattle.std.specs.Prelude.{Option, Some, None}
 use Rattle.std.proofs.lemmas.Option.{none-some}
 use Rattle.cells.specs.declared.Cell.{Cell}
 use Rattle.moves.specs.declared.Neighbour.{Neighbour}
-use Rattle.ground.specs.Compass.{Dir, NE, Shift, less, as_is, more, shifted, row_shift, col_shift}
+use Rattle.ground.specs.Compass.{Dir, Shift, less, as_is, more, shifted, row_shift, col_shift}
 use Rattle.ground.specs.Grid.{grid_of, cell_at, neighbour}
 use Rattle.ground.proofs.Cells.{neighbour_at}
 use Rattle.moves.specs.Lent.{Sides, OnCell}
@@ -102,19 +102,6 @@ module _ {rows cols row col down right : ℕ} where
   spot_inside p {x} e = digits_lt (p.row_in x e) (p.col_in x e)
 
 -- ---- the neighbours in order
-
--- the last is NE
-pub last_dir : (k : ℕ) → (k ≡ 0 → ⊥) → (k ≡ 1 → ⊥) → (k ≡ 2 → ⊥) → (k ≡ 3 → ⊥) → (k ≡ 4 → ⊥) → (k ≡ 5 → ⊥)
-    → (k ≡ 6 → ⊥) → dir_at k ≡ NE
-last_dir zero a b c d e f g = absurd (a refl)
-last_dir (suc zero) a b c d e f g = absurd (b refl)
-last_dir (suc (suc zero)) a b c d e f g = absurd (c refl)
-last_dir (suc (suc (suc zero))) a b c d e f g = absurd (d refl)
-last_dir (suc (suc (suc (suc zero)))) a b c d e f g = absurd (e refl)
-last_dir (suc (suc (suc (suc (suc zero))))) a b c d e f g = absurd (f refl)
-last_dir (suc (suc (suc (suc (suc (suc zero)))))) a b c d e f g = absurd (g refl)
-last_dir (suc (suc (suc (suc (suc (suc (suc zero))))))) a b c d e f g = refl
-last_dir (suc (suc (suc (suc (suc (suc (suc (suc k)))))))) a b c d e f g = refl
 
 module _ {rows cols : ℕ} {codes : List ℕ} {row col : ℕ} (on : OnCell rows cols codes row col)
     (k : ℕ) {n : Neighbour} (is-n : n ≡ neighbour_of (dir_at k)) where

@@ -28,6 +28,7 @@ fn by(row: usize, col: usize, step: Step) -> Option<Move>
 }
 
 // The step of a code. A null cell and a pond lead nowhere, as does a byte that is no code.
+#[tactic(auto, unfolding(crate::specs::Moves::lead_of, ground::specs::Tables::dir_of))]
 pub fn lead_of(code: u8) -> Option<Move>
     ensures { result ≡ lead_of code }
 {
@@ -127,7 +128,8 @@ impl Walk {
     }
 }
 
-// A neighbour: the change of row and of column, each plus one, and the code that points back at the cell.
+// A neighbour: the change of row and of column, each plus one, and the code that points back at the cell. One type with
+// Move, generic in what is carried, would be no plainer: its last field would have no name that fits a step and a code.
 #[derive(Clone, Copy)]
 pub struct Neighbour {
     pub row: usize,

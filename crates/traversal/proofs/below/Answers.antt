@@ -1,6 +1,5 @@
 -- `traversal::below` meets its contract: it is the move in the code's direction.
 -- Assumes nothing.
-use native.Mathlib.Omega.{arith}
 use mathlib.Core.Path.{◌∙◌}
 use Rattle.traversal.proofs.Moving.{place_below, next_beside, next_there, turn_back}
 use Rattle.traversal.proofs.below.Goals as goal
