@@ -47,8 +47,8 @@ impl Length {
         ensures { result ≡ farthest square_cells self n }
     {
         Length {
-            straight: self.straight,
             diagonal: self.diagonal + n,
+            ..self
         }
     }
 
@@ -60,11 +60,11 @@ impl Length {
         match step {
             Step::Straight => Length {
                 straight: self.straight + 1,
-                diagonal: self.diagonal,
+                ..self
             },
             Step::Diagonal => Length {
-                straight: self.straight,
                 diagonal: self.diagonal + 1,
+                ..self
             },
         }
     }
