@@ -5,10 +5,11 @@
 ghost use Rattle.std.specs.Prelude.{◌≤◌, ◌^◌, length};
 ghost use Rattle.lists.specs.Lists.{sum_of};
 ghost use Rattle.ground.specs.Grid.{grid_of};
+ghost use Rattle.notes.specs.Notes.{edition_number};
 ghost use Rattle.alloutlets.specs.AllOutlets.{path_counts};
 ghost use Rattle.passes.specs.Passes.{Searchable, CountsAll, ListsAll};
 
-use lists::index_of;
+use notes::Edition;
 use tracing::{list_at, search_at};
 
 // The longest paths, the cells visited and the cells dropped, over the outlets searched.
@@ -21,7 +22,7 @@ pub struct Sums {
 
 // Searches each outlet, and adds up what it finds.
 pub fn count_all(
-    edition: u32,
+    edition: Edition,
     rows: usize,
     cols: usize,
     codes: &[u8],
@@ -29,8 +30,8 @@ pub fn count_all(
     subaccumulation: &[u32],
     work: &mut [u32],
 ) -> Sums
-    requires { Searchable edition rows cols codes.now outlets.now subaccumulation.now work.old }
-    ensures { CountsAll edition (grid_of rows cols codes.now) outlets.now
+    requires { Searchable (edition_number edition) rows cols codes.now outlets.now subaccumulation.now work.old }
+    ensures { CountsAll (edition_number edition) (grid_of rows cols codes.now) outlets.now
         work.old result work.new }
 {
     let mut s = Sums {
@@ -38,8 +39,7 @@ pub fn count_all(
         visited: 0,
         dropped: 0,
     };
-    let mut place: usize = 0;
-    while place < outlets.len() {
+    for place in 0..outlets.len() {
         let p = search_at(
             edition,
             rows,
@@ -56,14 +56,13 @@ pub fn count_all(
             visited: s.visited + p.visited,
             dropped: s.dropped + p.dropped,
         };
-        place += 1;
     }
     s
 }
 
 // Searches each outlet once more, and writes its starts after those before it, and their count.
 pub fn list_all(
-    edition: u32,
+    edition: Edition,
     rows: usize,
     cols: usize,
     codes: &[u8],
@@ -73,18 +72,17 @@ pub fn list_all(
     counts: &mut [u32],
     work: &mut [u32],
 )
-    requires searchable { Searchable edition rows cols codes.now outlets.now subaccumulation.now work.old }
-    requires outlets_in_bounds { (sum_of (path_counts edition (grid_of rows cols codes.now) outlets.now) ≤ length starts.old)
-        × (sum_of (path_counts edition (grid_of rows cols codes.now) outlets.now) ≤ 2 ^ 24)
+    requires searchable { Searchable (edition_number edition) rows cols codes.now outlets.now subaccumulation.now work.old }
+    requires outlets_in_bounds { (sum_of (path_counts (edition_number edition) (grid_of rows cols codes.now) outlets.now) ≤ length starts.old)
+        × (sum_of (path_counts (edition_number edition) (grid_of rows cols codes.now) outlets.now) ≤ 2 ^ 24)
         × (length outlets.now ≤ length counts.old) }
-    ensures { ListsAll edition (grid_of rows cols codes.now) outlets.now
+    ensures { ListsAll (edition_number edition) (grid_of rows cols codes.now) outlets.now
         starts.old counts.old work.old starts.new counts.new
         work.new }
 {
-    let mut total: u32 = 0;
-    let mut j: usize = 0;
-    while j < outlets.len() {
-        let from = index_of(total);
+    let mut total = 0;
+    for j in 0..outlets.len() {
+        let from = total as usize;
         let p = list_at(
             edition,
             rows,
@@ -99,6 +97,5 @@ pub fn list_all(
         );
         counts[j] = p.paths;
         total += p.paths;
-        j += 1;
     }
 }

@@ -4,6 +4,7 @@
 ghost use Rattle.std.specs.Prelude.{◌≡◌, ◌*◌, ◌≤◌, length, get_or};
 ghost use Rattle.search.specs.Tracing.{numbers_each};
 ghost use Rattle.ground.specs.Grid.{grid_of};
+ghost use Rattle.notes.specs.Notes.{edition_number};
 ghost use Rattle.upstream.specs.Ready.{Ready, MetAt};
 ghost use Rattle.noting.specs.Noting.{Fresh};
 ghost use Rattle.answers.specs.Entries.{catchment};
@@ -11,13 +12,13 @@ ghost use Rattle.answers.specs.Tracings.{call_of, lent, TracesByRecursion, Trace
 ghost use Rattle.tracing.specs.Answering.{cells_of, tracing_at, Told, ToldAndLists, Lists, ListsAndClears};
 ghost use Rattle.tracing.specs.Preparing.{Chosen, Prepares};
 
-use answers::Traced;
+use answers::{Refusal, Traced};
 use cells::split_number;
-use checks::place_number;
+use checks::check_place;
 use filling::fill;
 use listing::{answer_for, list_starts, refused};
-use lists::{clear, index_of};
-use notes::{cells_held, is_edition};
+use lists::clear;
+use notes::{Edition, cells_held};
 use noting::{make_plain, make_ready};
 use progress::Progress;
 use stack::NUMBERS_EACH;
@@ -25,7 +26,7 @@ use stack::NUMBERS_EACH;
 // Traces an outlet by recursion, in a grid that holds the subaccumulation and comes back as it was. The starts wait in
 // an array, since those of a length that is exceeded later must not be seen in the list.
 fn by_recursion(
-    edition: u32,
+    edition: Edition,
     rows: usize,
     cols: usize,
     codes: &[u8],
@@ -38,7 +39,7 @@ fn by_recursion(
     requires fresh { Fresh rows cols codes.now outlets.now subaccumulation.old }
     requires chosen { Chosen rows cols codes.now outlets.now place }
     requires place_bound { cells_of rows cols codes.now outlets.now place ≤ 4096 }
-    ensures lists { Lists (tracing_at rows cols codes.now outlets.now place edition dropping)
+    ensures lists { Lists (tracing_at rows cols codes.now outlets.now place (edition_number edition) dropping)
         starts.old result starts.new }
     ensures subaccumulation_unchanged { subaccumulation.new ≡ subaccumulation.old }
 {
@@ -75,7 +76,7 @@ fn by_recursion(
 // Searches an outlet's subwatershed from pending cells, in a grid that is ready for it. The starts are left before the
 // end of the working numbers that the outlet's cells take.
 pub fn search_at(
-    edition: u32,
+    edition: Edition,
     rows: usize,
     cols: usize,
     codes: &[u8],
@@ -87,11 +88,11 @@ pub fn search_at(
 ) -> Progress
     requires ready { Ready rows cols codes.now outlets.now subaccumulation.now }
     requires chosen { Chosen rows cols codes.now outlets.now place
-        × MetAt edition (grid_of rows cols codes.now) outlets.now (get_or outlets.now place 0)
+        × MetAt (edition_number edition) (grid_of rows cols codes.now) outlets.now (get_or outlets.now place 0)
         subaccumulation.now }
     requires place_in_bounds { numbers_each * cells_of rows cols codes.now outlets.now place ≤ length work.old }
-    ensures { Told (tracing_at rows cols codes.now outlets.now place edition
-        dropping)
+    ensures { Told (tracing_at rows cols codes.now outlets.now place
+        (edition_number edition) dropping)
         (cells_of rows cols codes.now outlets.now place) work.old result
         work.new }
 {
@@ -112,7 +113,7 @@ pub fn search_at(
 
 // The same, and the starts are listed.
 pub fn list_at(
-    edition: u32,
+    edition: Edition,
     rows: usize,
     cols: usize,
     codes: &[u8],
@@ -125,16 +126,15 @@ pub fn list_at(
 ) -> Progress
     requires ready { Ready rows cols codes.now outlets.now subaccumulation.now }
     requires chosen { Chosen rows cols codes.now outlets.now place
-        × MetAt edition (grid_of rows cols codes.now) outlets.now (get_or outlets.now place 0)
+        × MetAt (edition_number edition) (grid_of rows cols codes.now) outlets.now (get_or outlets.now place 0)
         subaccumulation.now }
     requires place_in_bounds { numbers_each * cells_of rows cols codes.now outlets.now place ≤ length work.old }
-    ensures { ToldAndLists (tracing_at rows cols codes.now outlets.now place edition
-        dropping)
+    ensures { ToldAndLists (tracing_at rows cols codes.now outlets.now place
+        (edition_number edition) dropping)
         (cells_of rows cols codes.now outlets.now place) starts.old
         work.old result starts.new work.new }
 {
-    let at = index_of(outlets[place]);
-    let end = NUMBERS_EACH * index_of(cells_held(subaccumulation[at]));
+    let end = NUMBERS_EACH * cells_held(subaccumulation[outlets[place] as usize]) as usize;
     let p = search_at(
         edition,
         rows,
@@ -153,7 +153,7 @@ pub fn list_at(
 // Traces an outlet of so many cells from pending cells, in a grid that holds the subaccumulation and comes back as it
 // was. The working numbers are cleared.
 fn by_stack(
-    edition: u32,
+    edition: Edition,
     rows: usize,
     cols: usize,
     codes: &[u8],
@@ -169,8 +169,8 @@ fn by_stack(
     requires chosen { Chosen rows cols codes.now outlets.now place }
     requires cells_value { (cells ≡ cells_of rows cols codes.now outlets.now place)
         × (numbers_each * cells ≤ length work.old) }
-    ensures lists_and_clears { ListsAndClears (tracing_at rows cols codes.now outlets.now place edition
-        dropping)
+    ensures lists_and_clears { ListsAndClears (tracing_at rows cols codes.now outlets.now place
+        (edition_number edition) dropping)
         starts.old (cells_of rows cols codes.now outlets.now place)
         work.old result starts.new work.new }
     ensures subaccumulation_unchanged { subaccumulation.new ≡ subaccumulation.old }
@@ -199,19 +199,12 @@ fn by_stack(
         work,
     );
     make_plain(edition, rows * cols, subaccumulation);
-    let end = NUMBERS_EACH * index_of(cells);
+    let end = NUMBERS_EACH * cells as usize;
     clear(end, work);
     answer_for(p, starts.len())
 }
 
-// The first of 10 to 18 that fails, and else, once the grid is filled, the cells of the chosen subwatershed.
-#[derive(Clone, Copy)]
-pub struct Prepared {
-    pub number: u32,
-    pub cells: u32,
-}
-
-// What comes before either engine: 10, 11, 12, 14 to 18, and then the grid is filled.
+// What comes before either engine: 10, 11, 12, 14 to 18, and then the grid is filled. The cells of the chosen subwatershed.
 fn prepare(
     rows: usize,
     cols: usize,
@@ -220,25 +213,15 @@ fn prepare(
     outlets: &[u32],
     place: usize,
     subaccumulation: &mut [u32],
-) -> Prepared
+) -> Result<u32, Refusal>
     ensures { Prepares
         (catchment rows cols codes.now accumulation.now outlets.now) place
         subaccumulation.old result subaccumulation.new }
 {
     let lengths = [accumulation.len(), subaccumulation.len()];
-    let first = place_number(rows, cols, codes, accumulation, outlets, place, &lengths);
-    if first != 0 {
-        return Prepared {
-            number: first,
-            cells: 0,
-        };
-    }
+    check_place(rows, cols, codes, accumulation, outlets, place, &lengths)?;
     fill(rows, cols, codes, outlets, subaccumulation);
-    let at = index_of(outlets[place]);
-    Prepared {
-        number: 0,
-        cells: subaccumulation[at],
-    }
+    Ok(subaccumulation[outlets[place] as usize])
 }
 
 // Traces all longest paths to an outlet of the list by an edition, with or without dropping, by recursion: 25, 10, 11,
@@ -261,24 +244,16 @@ pub fn trace_by_recursion(
         (lent subaccumulation.old starts.old)
         result (lent subaccumulation.new starts.new) }
 {
-    if !is_edition(edition) {
-        return refused(25);
-    }
-    let ready = prepare(
-        rows,
-        cols,
-        codes,
-        accumulation,
-        outlets,
-        place,
-        subaccumulation,
-    );
-    let number = ready.number;
-    if number != 0 {
-        return refused(number);
-    }
-    if 4096 < ready.cells {
-        return refused(19);
+    let edition = match Edition::try_from(edition) {
+        Ok(edition) => edition,
+        Err(refusal) => return refused(refusal),
+    };
+    let cells = match prepare(rows, cols, codes, accumulation, outlets, place, subaccumulation) {
+        Ok(cells) => cells,
+        Err(refusal) => return refused(refusal),
+    };
+    if cells > 4096 {
+        return refused(Refusal::TooManyCells);
     }
     by_recursion(
         edition,
@@ -313,25 +288,16 @@ pub fn trace_by_stack(
         (lent subaccumulation.old starts.old) work.old
         result (lent subaccumulation.new starts.new) work.new }
 {
-    if !is_edition(edition) {
-        return refused(25);
-    }
-    let ready = prepare(
-        rows,
-        cols,
-        codes,
-        accumulation,
-        outlets,
-        place,
-        subaccumulation,
-    );
-    let number = ready.number;
-    if number != 0 {
-        return refused(number);
-    }
-    let cells = ready.cells;
-    if work.len() < NUMBERS_EACH * index_of(cells) {
-        return refused(20);
+    let edition = match Edition::try_from(edition) {
+        Ok(edition) => edition,
+        Err(refusal) => return refused(refusal),
+    };
+    let cells = match prepare(rows, cols, codes, accumulation, outlets, place, subaccumulation) {
+        Ok(cells) => cells,
+        Err(refusal) => return refused(refusal),
+    };
+    if work.len() < NUMBERS_EACH * cells as usize {
+        return refused(Refusal::WorkingSpace);
     }
     by_stack(
         edition,

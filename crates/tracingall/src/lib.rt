@@ -6,6 +6,8 @@ ghost use Rattle.lists.specs.Lists.{greatest_of};
 ghost use Rattle.lists.specs.Slices.{Within};
 ghost use Rattle.ground.specs.Grid.{grid_of};
 ghost use Rattle.search.specs.Tracing.{numbers_each};
+ghost use Rattle.answers.specs.Refusals.{refusal_number};
+ghost use Rattle.notes.specs.Notes.{edition_number};
 ghost use Rattle.answers.specs.Entries.{catchment};
 ghost use Rattle.alloutlets.specs.AllOutlets.{most_cells, traced_all, lent_all, TracesAll};
 ghost use Rattle.noting.specs.Noting.{Fresh};
@@ -14,8 +16,9 @@ ghost use Rattle.tracingall.specs.Searching.{SearchesAll};
 
 use accumulation::subaccumulate;
 use alloutlets::TracedAll;
-use lists::{clear, index_of};
-use notes::is_edition;
+use answers::Refusal;
+use lists::clear;
+use notes::Edition;
 use noting::{make_plain, make_ready};
 use passes::{count_all, list_all};
 use stack::NUMBERS_EACH;
@@ -26,22 +29,16 @@ fn most_cells(outlets: &[u32], subaccumulation: &[u32]) -> u32
     ensures { result
         ≡ greatest_of (map (λ o. get_or subaccumulation.now o 0) outlets.now) }
 {
-    let mut most: u32 = 0;
-    let mut j: usize = 0;
-    while j < outlets.len() {
-        let at = index_of(outlets[j]);
-        let cells = subaccumulation[at];
-        if most < cells {
-            most = cells;
-        }
-        j += 1;
+    let mut most = 0;
+    for outlet in outlets {
+        most = most.max(subaccumulation[*outlet as usize]);
     }
     most
 }
 
 // Past 23: all outlets are counted, and listed if there is room for all; then the working numbers are cleared.
 fn search_all(
-    edition: u32,
+    edition: Edition,
     rows: usize,
     cols: usize,
     codes: &[u8],
@@ -52,22 +49,20 @@ fn search_all(
     counts: &mut [u32],
     work: &mut [u32],
 ) -> TracedAll
-    requires searchable { Searchable edition rows cols codes.now outlets.now subaccumulation.now work.old }
+    requires searchable { Searchable (edition_number edition) rows cols codes.now outlets.now subaccumulation.now work.old }
     requires end_value { (end ≡ numbers_each * most_cells (grid_of rows cols codes.now) outlets.now)
         × (length outlets.now ≤ length counts.old) }
-    ensures { SearchesAll edition (grid_of rows cols codes.now) outlets.now
+    ensures { SearchesAll (edition_number edition) (grid_of rows cols codes.now) outlets.now
         starts.old counts.old work.old result starts.new counts.new
         work.new }
 {
     let s = count_all(edition, rows, cols, codes, outlets, subaccumulation, work);
-    let visited = s.visited;
-    let dropped = s.dropped;
-    if starts.len() < index_of(s.paths) {
+    if starts.len() < s.paths as usize {
         clear(end, work);
         return TracedAll {
-            number: 21,
-            visited,
-            dropped,
+            number: Refusal::StartsRoom.number(),
+            visited: s.visited,
+            dropped: s.dropped,
         };
     }
     list_all(
@@ -84,15 +79,15 @@ fn search_all(
     clear(end, work);
     TracedAll {
         number: 0,
-        visited,
-        dropped,
+        visited: s.visited,
+        dropped: s.dropped,
     }
 }
 
 // The same in a grid that holds the subaccumulation, is made ready for the searches by the edition, and comes back as
 // it was.
 fn search_by(
-    edition: u32,
+    edition: Edition,
     rows: usize,
     cols: usize,
     codes: &[u8],
@@ -107,12 +102,11 @@ fn search_by(
     requires traceable { Traceable rows cols codes.now outlets.now work.old }
     requires end_value { (end ≡ numbers_each * most_cells (grid_of rows cols codes.now) outlets.now)
         × (length outlets.now ≤ length counts.old) }
-    ensures searches_all { SearchesAll edition (grid_of rows cols codes.now) outlets.now
+    ensures searches_all { SearchesAll (edition_number edition) (grid_of rows cols codes.now) outlets.now
         starts.old counts.old work.old result starts.new counts.new
         work.new }
     ensures subaccumulation_unchanged { subaccumulation.new ≡ subaccumulation.old }
 {
-    let many = outlets.len();
     make_ready(
         edition,
         rows,
@@ -120,7 +114,7 @@ fn search_by(
         codes,
         outlets,
         0,
-        many,
+        outlets.len(),
         subaccumulation,
         work,
     );
@@ -141,11 +135,11 @@ fn search_by(
 }
 
 // Refused before the searches.
-fn refused_all(number: u32) -> TracedAll
-    ensures { result ≡ traced_all number 0 0 }
+fn refused_all(refusal: Refusal) -> TracedAll
+    ensures { result ≡ traced_all (refusal_number refusal) 0 0 }
 {
     TracedAll {
-        number,
+        number: refusal.number(),
         visited: 0,
         dropped: 0,
     }
@@ -170,19 +164,21 @@ pub fn trace_all(
         (lent_all subaccumulation.old starts.old counts.old work.old) result
         (lent_all subaccumulation.new starts.new counts.new work.new) }
 {
-    if !is_edition(edition) {
-        return refused_all(25);
+    let edition = match Edition::try_from(edition) {
+        Ok(edition) => edition,
+        Err(refusal) => return refused_all(refusal),
+    };
+    if let Err(refusal) = subaccumulate(
+        rows, cols, codes, accumulation, outlets, subaccumulation,
+    ) {
+        return refused_all(refusal);
     }
-    let number = subaccumulate(rows, cols, codes, accumulation, outlets, subaccumulation);
-    if number != 0 {
-        return refused_all(number);
-    }
-    let end = NUMBERS_EACH * index_of(most_cells(outlets, subaccumulation));
+    let end = NUMBERS_EACH * most_cells(outlets, subaccumulation) as usize;
     if work.len() < end {
-        return refused_all(20);
+        return refused_all(Refusal::WorkingSpace);
     }
     if counts.len() < outlets.len() {
-        return refused_all(23);
+        return refused_all(Refusal::Room);
     }
     search_by(
         edition,
