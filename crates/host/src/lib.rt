@@ -84,7 +84,7 @@ pub extern "C" fn jb_flow_lengths(
         (length_grids down_straight.new down_diagonal.new up_straight.new
         up_diagonal.new) }
 {
-    flowlengths::flow_lengths(
+    number_told(flowlengths::flow_lengths(
         rows,
         cols,
         codes,
@@ -94,7 +94,7 @@ pub extern "C" fn jb_flow_lengths(
         down_diagonal,
         up_straight,
         up_diagonal,
-    )
+    ))
 }
 
 #[unsafe(no_mangle)]
