@@ -6,13 +6,6 @@ use Rattle.filling.proofs.Kept.{at_inside}
 use Rattle.filling.proofs.Descents.{looked_small, look_none, look_no, look_yes}
 use Rattle.filling.proofs.look_at.Goals as goal
 
-pub offset_bounds-words-at : goal.offset_bounds-words-at
-offset_bounds-words-at c = omega (arith, at_inside c.requires.fillable_at)
-
-pub bounds-words-at : goal.bounds-words-at
-bounds-words-at c = omega
-    (arith, at_inside c.requires.fillable_at, c.requires.fillable_at.fillable.has_words)
-
 pub overflow_add-result : goal.overflow_add-result
 overflow_add-result c =
     omega (arith, looked_small c.requires.fillable_at.fillable _ (at_inside c.requires.fillable_at).0 c.requires.looked)
