@@ -329,6 +329,7 @@ pub fn trace(
         0,
         work,
     );
+    // a while: what is put on while cells are taken off is no range or list to go over
     while s.top > 0 {
         s = turn(
             rows,
