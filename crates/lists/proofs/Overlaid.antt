@@ -9,18 +9,7 @@ use native.Mathlib.Decide.{dec_lt}
 use lib.ListN.{length, get_or, set, take, drop, length-append, length-take, length-drop, drop_of_length-le}
 use lib.ListN.{length-replicate, get_or-replicate, get_or-append}
 use lib.Seq.{sets, sets-eq, take_all, take_at, take-append-le, ext_get_or, get_or-append-add, get_or-drop}
-use borrow.Rule.Slice.PartMut.{put_mid}
-use Rattle.std.proofs.Common.{append_assoc}
-use Rattle.std.proofs.lemmas.Slice.{put_mid-paste}
-use Rattle.std.proofs.lemmas.List.Edits.{paste_all}
 use Rattle.lists.specs.Slices.{overlaid, zeros, Kept}
-
--- a part of a list that was written holds what was to be stored from its first place on
-pub part_written : (l xs : List ℕ) (place k : ℕ) (new : List ℕ) → new ≡ xs → length xs ≡ k → place + length xs ≤ length l
-    → put_mid place k l new ≡ sets l place xs
-part_written l xs place k new e f h =
-    put_mid-paste place k l new xs (length xs) e f refl ∙ paste_all l place xs (length xs) refl
-    ∙ sym (append_assoc (take place l) xs (drop (place + length xs) l)) ∙ sym (sets-eq xs l place h)
 
 -- what is left of a lent list is as long as it was
 pub overlaid_length : (new old : List ℕ) → length (overlaid new old) ≡ length old

@@ -21,7 +21,8 @@ same : (x a y b : ℕ) → (eqb x a && eqb y b) ≡ (eqb a x && eqb b y)
 same x a y b = grind (arith, nat_tests)
 
 begins : (rest letters : List ℕ) → length letters ≡ 2 → 2 ≤ length rest
-    → starts_with eqb rest letters ≡ (eqb (get_or rest 0 0) (get_or letters 0 0) && eqb (get_or rest 1 0) (get_or letters 1 0))
+    → starts_with eqb rest letters
+    ≡ (eqb (get_or rest 0 0) (get_or letters 0 0) && eqb (get_or rest 1 0) (get_or letters 1 0))
 begins rest [] e h = absurd (omega arith)
 begins rest (x ∷ []) e h = absurd (omega arith)
 begins rest (x ∷ y ∷ z ∷ zs) e h = absurd (omega arith)

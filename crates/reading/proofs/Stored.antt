@@ -38,7 +38,8 @@ answer_number file grid list = go (read_number file grid list) refl
     go zero e = rw e
     go (suc k) e = rw (e, ne_eqb (suc k) 0 (λ z. omega arith))
 
-module _ (file grid list : List ℕ) (r : Result Sheet Refusal) (e : sheet_told r ≡ read_answer file (length grid) (length list)) where
+module _ (file grid list : List ℕ) (r : Result Sheet Refusal)
+    (e : sheet_told r ≡ read_answer file (length grid) (length list)) where
   number_is : (sheet_told r).number ≡ read_number file (length grid) (length list)
   number_is = ap (λ (x : SheetTold). x.number) e ∙ answer_number file (length grid) (length list)
 
@@ -79,8 +80,8 @@ module _ (file grid list : List ℕ) (r : Result Sheet Refusal) (e : sheet_told 
     unfolding read_leaves_outlets
     outlets_left = rw passes (sets_overlaid list (file_outlets file) (omega (arith, a.few_outlets, a.has_list)))
 
-    pub storable : (rows cols count : ℕ) → rows ≡ (sheet_told r).rows → cols ≡ (sheet_told r).cols → count ≡ (sheet_told r).outlets
-        → Storable file grid list r rows cols count
+    pub storable : (rows cols count : ℕ) → rows ≡ (sheet_told r).rows → cols ≡ (sheet_told r).cols
+        → count ≡ (sheet_told r).outlets → Storable file grid list r rows cols count
     storable rows cols count m n o =
         let start : ℕ = 6 + file_rows file * (4 + file_cols file) in
         let rs : rows ≡ file_rows file = m ∙ rows_are in

@@ -4,7 +4,7 @@
 
 ghost use Rattle.std.specs.Prelude.{◌≡◌, ◌≤◌, length, get_or};
 ghost use Rattle.lists.specs.Lists.{member, all_below};
-ghost use Rattle.ground.specs.Tables.{table1, is_table, table_of, codes_of, is_code};
+ghost use Rattle.ground.specs.Tables.{table1, codes_of, is_code};
 ghost use Rattle.tables.specs.Faults.{fault_of};
 ghost use Rattle.tables.specs.Numbered.{the_table, Numbered};
 
@@ -55,24 +55,6 @@ pub fn ours() -> [u8; 10]
     ensures { result ≡ codes_of table1 }
 {
     CodeTable::Powers.codes()
-}
-
-// 24: is this the number of a table?
-pub fn is_table(number: u32) -> bool
-    ensures { result ≡ is_table number }
-{
-    1 <= number && number <= 3
-}
-
-// The codes of a table by its number.
-pub fn codes_of(number: u32) -> [u8; 10]
-    ensures { result ≡ codes_of (table_of number) }
-{
-    match number {
-        2 => CodeTable::CounterClockwise.codes(),
-        3 => CodeTable::Clockwise.codes(),
-        _ => ours(),
-    }
 }
 
 // 12: 0 for a code of the table, 1 for any other byte. No code ends the loop, so that several bytes can be looked at at

@@ -248,7 +248,15 @@ pub fn trace_by_recursion(
         Ok(edition) => edition,
         Err(refusal) => return refused(refusal),
     };
-    let cells = match prepare(rows, cols, codes, accumulation, outlets, place, subaccumulation) {
+    let cells = match prepare(
+        rows,
+        cols,
+        codes,
+        accumulation,
+        outlets,
+        place,
+        subaccumulation,
+    ) {
         Ok(cells) => cells,
         Err(refusal) => return refused(refusal),
     };
@@ -292,7 +300,15 @@ pub fn trace_by_stack(
         Ok(edition) => edition,
         Err(refusal) => return refused(refusal),
     };
-    let cells = match prepare(rows, cols, codes, accumulation, outlets, place, subaccumulation) {
+    let cells = match prepare(
+        rows,
+        cols,
+        codes,
+        accumulation,
+        outlets,
+        place,
+        subaccumulation,
+    ) {
         Ok(cells) => cells,
         Err(refusal) => return refused(refusal),
     };

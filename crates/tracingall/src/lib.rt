@@ -168,9 +168,7 @@ pub fn trace_all(
         Ok(edition) => edition,
         Err(refusal) => return refused_all(refusal),
     };
-    if let Err(refusal) = subaccumulate(
-        rows, cols, codes, accumulation, outlets, subaccumulation,
-    ) {
+    if let Err(refusal) = subaccumulate(rows, cols, codes, accumulation, outlets, subaccumulation) {
         return refused_all(refusal);
     }
     let end = NUMBERS_EACH * most_cells(outlets, subaccumulation) as usize;

@@ -10,7 +10,8 @@ use Rattle.spelling.specs.Reading.{is_outlet}
 use Rattle.reading.proofs.Steps.{record_fits, more_after_end, not_outlet, beyond_rows, beyond_cols}
 use Rattle.reading.proofs.Steps.{outlet_passes}
 use Rattle.reading.proofs.record_at.Goals as goal
-use Rattle.reading.proofs.record_at.Goals.{then-number-rows-via-then-number-rows, then-number-rows-via-else-number-rows+then-number-cols}
+use Rattle.reading.proofs.record_at.Goals.{then-number-rows-via-then-number-rows}
+use Rattle.reading.proofs.record_at.Goals.{then-number-rows-via-else-number-rows+then-number-cols}
 
 fits : (file : List ℕ) (at : ℕ) → is_outlet (drop at file) ≡ true → at ≤ length file → at + 6 ≤ length file
 fits file at e h = record_fits file at 6 79 84 e h

@@ -10,7 +10,8 @@ use Rattle.spelling.specs.Format.{row_mark}
 use Rattle.spelling.specs.Reading.{is_record}
 use Rattle.reading.proofs.Steps.{record_fits, part_codes, no_row, other_row, other_code, row_passes}
 use Rattle.reading.proofs.row_at.Goals as goal
-use Rattle.reading.proofs.row_at.Goals.{then-not-is_record-via-then-not-is_record, then-not-is_record-via-else-not-is_record+then-number-row}
+use Rattle.reading.proofs.row_at.Goals.{then-not-is_record-via-then-not-is_record}
+use Rattle.reading.proofs.row_at.Goals.{then-not-is_record-via-else-not-is_record+then-number-row}
 
 fits : (file : List ℕ) (at cols : ℕ) → is_record row_mark (4 + cols) (drop at file) ≡ true → at ≤ length file
     → at + (4 + cols) ≤ length file

@@ -25,8 +25,11 @@ fill-requires c =
 pub offset_bounds-outlets-place : goal.offset_bounds-outlets-place
 offset_bounds-outlets-place c =
     let a = c.args in
-    omega (arith, place_small (catchment a.rows a.cols a.codes.now a.accumulation.now a.outlets.now)
-    a.subaccumulation.now refl a.place c.in_ok-check_place.ensures)
+    omega (
+      arith,
+      place_small (catchment a.rows a.cols a.codes.now a.accumulation.now a.outlets.now)
+          a.subaccumulation.now refl a.place c.in_ok-check_place.ensures,
+    )
 
 pub bounds-outlets-place : goal.bounds-outlets-place
 bounds-outlets-place c =

@@ -6,6 +6,7 @@ use mathlib.Core.List.{List, map, []}
 use Prim.Native.Nat.{ℕ, ◌+◌, ◌<◌, max}
 use native.Mathlib.Numerals.{add-one}
 use native.Mathlib.Omega.{arith}
+use borrow.Author.Rules.{rules}
 use lib.ListN.{length, get_or, drop, drop_of_length-le}
 use Rattle.lists.specs.Lists.{greatest_of}
 use Rattle.lists.proofs.Sums.{greatest_left}
@@ -24,8 +25,9 @@ pub loop-outlet-preserved : goal.loop-outlet-preserved
 loop-outlet-preserved c =
     let l = c.loop-outlet in
     let a = c.args in
-    with_next (λ o. get_or a.subaccumulation.now o 0) a.outlets.now l.outlet-index l.most _ c.loop-outlet-test.true
-    c.max-most.ensures l.invariant
+    let f : ℕ → ℕ = λ o. get_or a.subaccumulation.now o 0 in
+    let next : c.max-most.result ≡ max l.most (f (get_or a.outlets.now l.outlet-index 0)) = search rules in
+    with_next f a.outlets.now l.outlet-index l.most c.max-most.result c.loop-outlet-test.true next l.invariant
 
 pub returns : goal.returns
 unfolding greatest_of
