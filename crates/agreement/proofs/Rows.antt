@@ -43,10 +43,7 @@ module _ {rows cols row col : ℕ} {codes a : List ℕ} where
 
 module _ {g : Grid} {a : List ℕ} {row : ℕ} where
   module _ {first : ℕ} where
-    -- no cell yet, one cell more, not all of them, and one that fails
-    pub along_none : AgreesAlong g a row first first true
-    along_none = record { holds = λ e col p q. absurd (omega arith); fails = λ e. absurd (true≢false e) }
-
+    -- one cell more, and one that fails
     pub along_next : {end : ℕ} {r : Bool} → AgreesAlong g a row first end r
         → agrees_at g a (row * g.cols + end) ≡ true → AgreesAlong g a row first (end + 1) r
     along_next {end} h e = record {
@@ -54,10 +51,6 @@ module _ {g : Grid} {a : List ℕ} {row : ℕ} where
           (λ k l f. h.holds y k f l) (λ f. e) col q p;
       fails = h.fails;
     }
-
-    pub along_less : {end less : ℕ} {r : Bool} → AgreesAlong g a row first end r → less ≤ end
-        → AgreesAlong g a row first less r
-    along_less h l = record { holds = λ y col p q. h.holds y col p (omega arith); fails = h.fails }
 
     pub along_fails : {end : ℕ} → agrees g a ≡ false → AgreesAlong g a row first end false
     along_fails e = record { holds = λ y. absurd (true≢false (sym y)); fails = λ y. e }

@@ -42,7 +42,7 @@ use Rattle.filling.proofs.Flags.{
 }
 use Rattle.filling.proofs.Outlets.{flows_ground}
 use Rattle.filling.proofs.Done.{tally_le}
-use Rattle.lists.proofs.Kept.{kept_all, kept_then, sum_set}
+use Rattle.lists.proofs.Kept.{sum_set}
 
 -- the bounds of a word
 pub word_bounds : (g : Grid) (outlets l : List ℕ) {i done : ℕ} {busy : ℕ → Bool}
@@ -223,33 +223,11 @@ module _ {g : Grid} {outlets : List ℕ} {i done : ℕ} where
         → Passed g outlets i done l m (Some cell)
     passed_on k d h = record { going = goes_on k d; less = λ x e. h }
 
-    pub going_begin : {l : List ℕ} → Down g outlets l i cell.at done → Going g outlets i done l l (Some cell)
-    going_begin d = goes_on kept_all d
-
   pub passed_end : {l m : List ℕ} → Kept (cell_count g) l m → Looked g outlets m i done
       → Passed g outlets i done l m None
   passed_end k p = record { going = ways_end k p; less = λ x e. absurd (none-some x e) }
-
-  pub going_on : {before : ℕ} {l m n : List ℕ} {s t : Option NumberedCell} → Going g outlets i before l m s
-      → Passed g outlets i done m n t → Going g outlets i done l n t
-  going_on a p = record {
-    is_down = p.going.is_down;
-    is_at = p.going.is_at;
-    row_in = p.going.row_in;
-    col_in = p.going.col_in;
-    done_is = p.going.done_is;
-    kept = kept_then a.kept p.going.kept;
-  }
 
 -- its measure: what the words add up to, and nothing at its end
 abbrev pub ahead : Option NumberedCell → ℕ → ℕ
 ahead None n = 0
 ahead (Some cell) n = suc n
-
-pub ahead_less : {s t : Option NumberedCell} {cell : NumberedCell} {m n : ℕ} → s ≡ Some cell
-    → ((x : NumberedCell) → t ≡ Some x → n < m) → ahead t n < ahead s m
-ahead_less {t = t} {m = m} {n = n} e h = rw e (go t h)
-  where
-    go : (u : Option NumberedCell) → ((x : NumberedCell) → u ≡ Some x → n < m) → ahead u n < suc m
-    go None k = omega arith
-    go (Some x) k = omega (arith, k x refl)

@@ -10,7 +10,7 @@ use Rattle.cells.proofs.Numbers.{is_row_lem, is_col}
 use Rattle.answers.specs.declared.Answer.{Answer}
 use Rattle.answers.specs.declared.Answer.TheVariants.{Found, NoPlace, Refused}
 use Rattle.answers.specs.declared.Traced.{Traced}
-use Rattle.answers.specs.Entries.{Catchment, catchment}
+use Rattle.answers.specs.Entries.{Catchment}
 use Rattle.answers.specs.Tracings.{Lent, lent, Traces}
 use Rattle.lines.specs.Line.{outlet_line}
 use Rattle.lines.specs.Appending.{Appends}

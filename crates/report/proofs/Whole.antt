@@ -10,8 +10,7 @@ use lib.ListN.{length, take}
 use lib.Dec.{eqb}
 use borrow.Author.Tests.{ne_eqb, eqb-true}
 use Rattle.lists.specs.Slices.{zeros}
-use Rattle.ground.specs.Grid.{grid_of}
-use Rattle.answers.specs.Entries.{catchment, accumulate_number, Accumulates}
+use Rattle.answers.specs.Entries.{catchment, Accumulates}
 use Rattle.lines.specs.Appending.{Appends}
 use Rattle.lines.proofs.Appending.{appends_both, appends_as}
 use Rattle.lines.specs.Line.{catchment_line, refused_line}

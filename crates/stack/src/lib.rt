@@ -245,7 +245,8 @@ pub fn trace(
     let at = cell.row * filled.grid.cols + cell.col;
     let end = NUMBERS_EACH * cells_held(filled.subaccumulation[at]) as usize;
     let mut s = enter_outlet(filled, edition, cell, Length::none(), end, begin(), 0, work);
-    while 0 < s.top {
+    // No for: what is put on while cells are taken off is no range to go over.
+    while s.top > 0 {
         s = turn(filled, edition, dropping, end, s, work);
     }
     s.progress

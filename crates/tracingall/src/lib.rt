@@ -109,7 +109,7 @@ fn search_by(
     traced
 }
 
-// Refused before the searches.
+// Refused before the searches. The answer keeps a number and no Result: 21 comes with the sums too.
 fn refused_all(refusal: Refusal) -> TracedAll
     ensures { result ≡ traced_all (refusal_number refusal) 0 0 }
 {

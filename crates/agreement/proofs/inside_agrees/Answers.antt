@@ -3,17 +3,8 @@
 -- Assumes nothing.
 use mathlib.Core.Path.{sym, ◌∙◌}
 use native.Mathlib.Omega.{arith}
-use Rattle.agreement.proofs.Rows.{inner_cell, stops, along_none, along_with, along_less}
+use Rattle.agreement.proofs.Rows.{inner_cell, stops, along_with}
 use Rattle.agreement.proofs.inside_agrees.Goals as goal
-
-pub loop-col-init : goal.loop-col-init
-loop-col-init c = along_none
-
-pub agrees_inside-agreed-requires : goal.agrees_inside-agreed-requires
-agrees_inside-agreed-requires c = inner_cell c.requires (omega arith) (omega arith)
-
-pub returns : goal.returns
-returns c = along_less c.loop-col.invariant (omega arith)
 
 pub loop-col-preserved : goal.loop-col-preserved
 loop-col-preserved c =

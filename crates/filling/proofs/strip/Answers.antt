@@ -1,11 +1,8 @@
 -- `filling::strip` meets its contract. The invariant: the first outlets have no flag any more.
 -- Assumes nothing.
 use mathlib.Core.Path.{refl}
-use Rattle.filling.proofs.Sweeps.{strip_begin, strip_step}
+use Rattle.filling.proofs.Sweeps.{strip_step}
 use Rattle.filling.proofs.strip.Goals as goal
-
-pub loop-outlet-init : goal.loop-outlet-init
-loop-outlet-init c = strip_begin
 
 pub loop-outlet-preserved : goal.loop-outlet-preserved
 loop-outlet-preserved c =

@@ -1,15 +1,14 @@
 -- `passes::list_all` meets its contract. The invariant: the first j outlets are listed, and storing what is left of
 -- both lists stores all.
 -- Assumes nothing.
-use Prim.Native.Nat.{◌+◌, ◌≤◌}
+use Prim.Native.Nat.{◌<◌}
 use native.Mathlib.Omega.{arith}
-use borrow.Author.Rules.{rules}
 use lib.ListN.{length, get_or}
 use Rattle.lists.proofs.Kept.{kept_all}
 use Rattle.ground.specs.Grid.{grid_of}
 use Rattle.notes.specs.Notes.{edition_number}
 use Rattle.alloutlets.proofs.AllOutlets.{starts_to, long_starts}
-use Rattle.passes.proofs.Counting.{paths_to, searchable_at, kept_search}
+use Rattle.passes.proofs.Counting.{searchable_at, kept_search}
 use Rattle.passes.proofs.Listing.{listing_none, listing_more, within}
 use Rattle.passes.proofs.Listing.{put_part, fits_all, all_listed, all_counted}
 use Rattle.passes.proofs.list_all.Goals as goal
@@ -21,7 +20,7 @@ loop-j-init c =
 
 pub list_at-p-requires : goal.list_at-p-requires
 list_at-p-requires c =
-    let s = searchable_at c.requires.searchable c.loop-j.invariant.1 c.loop-j.j c.loop-j-test.true in
+    let s = searchable_at c.requires.searchable c.loop-j.invariant.1 c.loop-j.j (omega arith) in
     record { ready = s.0; chosen = s.1.0; place_in_bounds = s.1.1 }
 
 pub overflow_add-total : goal.overflow_add-total
@@ -29,7 +28,7 @@ overflow_add-total c =
     let a = c.args in
     omega (
       arith,
-      fits_all (edition_number a.edition) (grid_of a.filled.grid.rows a.filled.grid.cols a.filled.grid.codes.now) a.filled.outlets.now c.loop-j-test.true
+      fits_all (edition_number a.edition) (grid_of a.filled.grid.rows a.filled.grid.cols a.filled.grid.codes.now) a.filled.outlets.now (omega arith)
           c.requires.outlets_in_bounds.0
           c.loop-j.invariant.0,
       c.list_at-p.ensures.counted.count,
@@ -43,7 +42,7 @@ loop-j-preserved c =
     let g = grid_of a.filled.grid.rows a.filled.grid.cols a.filled.grid.codes.now in
     let e = edition_number a.edition in
     let cs = starts_to e g a.filled.outlets.now (get_or a.filled.outlets.now l.j 0) in
-    let h = c.loop-j-test.true in
+    let h : l.j < length a.filled.outlets.now = omega arith in
     let r = c.list_at-p.ensures in
     let long = long_starts e g a.filled.outlets.now (get_or a.filled.outlets.now l.j 0) in (
       listing_more e g a.filled.outlets.now h c.requires.outlets_in_bounds.0 l.invariant.0 c.list_at-p.result.paths

@@ -1,6 +1,6 @@
 -- `tracing::trace_by_stack` meets its contract.
 -- Assumes nothing.
-use mathlib.Core.Path.{◌∙◌, refl, sym, subst}
+use mathlib.Core.Path.{refl, subst}
 use Prim.Native.Nat.{ℕ}
 use native.Mathlib.Omega.{arith}
 use Rattle.answers.specs.Entries.{catchment}
