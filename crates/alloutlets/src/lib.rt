@@ -6,6 +6,7 @@ ghost use Rattle.alloutlets.specs.Part.{part_at, ShowsStarts};
 
 // What became of tracing all outlets: the number of the first check that fails, 0 if none does, and the sums of the
 // cells visited and dropped.
+// It is no `Result`: the sums are told beside 21 too (`sums_told`).
 #[derive(Clone, Copy)]
 pub struct TracedAll {
     pub number: u32,

@@ -35,6 +35,7 @@ pub fn file_place() -> [u8; FILE_BYTES]
 const WORKING: usize = NUMBERS_EACH * 4096;
 
 // Is the outlet at a place traced? If not, the number with which it is refused.
+// The refusal is a number, as `Answer::Refused` has it, and the working space is arrays: a rule of the project, no heap.
 fn check_outlet(
     rows: usize,
     cols: usize,

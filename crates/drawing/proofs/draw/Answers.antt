@@ -1,8 +1,9 @@
 -- `drawing::draw` meets its contract: the first places, as many as `draw_into` counts, are the part.
 -- Assumes nothing.
-use mathlib.Core.Path.{refl}
+use mathlib.Core.Path.{refl, ap, ◌∙◌}
+use Prim.Native.Nat.{ℕ}
 use native.Mathlib.Omega.{arith}
-use lib.ListN.{length-take}
+use lib.ListN.{take, length-take}
 use Rattle.answers.specs.Drawing.{drawing_of}
 use Rattle.drawing.proofs.Accepted.{part_taken, part_fits}
 use Rattle.drawing.proofs.draw.Goals as goal
@@ -22,4 +23,7 @@ pub returns : goal.returns
 returns c =
     let a = c.args in
     let q = drawing_of a.rows a.cols a.codes.now a.accumulation.now a.outlets.now a.place a.start in
-    (rw c.unwrap_or-count.ensures (part_taken q a.path.now c.draw_into-drawn.ensures), refl)
+    let new = c.draw_into-drawn.new.path in (
+      ap (λ (n : ℕ). take n new) c.unwrap_or-count.ensures ∙ part_taken q a.path.now c.draw_into-drawn.ensures,
+      refl,
+    )
