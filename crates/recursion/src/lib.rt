@@ -22,9 +22,9 @@ pub struct Turn {
 }
 
 // The turn to a neighbour.
-fn turn_at(filled: FilledGrid, k: usize, cell: Cell) -> Turn
-    requires { (number_in filled cell < length filled.subaccumulation.now) × (number_in filled cell < 2 ^ 24) }
-    ensures { result ≡ turn_at filled.entry k cell }
+fn turn_at(filled: &FilledGrid, k: usize, cell: Cell) -> Turn
+    requires { (number_in filled.now cell < length filled.now.subaccumulation.now) × (number_in filled.now cell < 2 ^ 24) }
+    ensures { result ≡ turn_at filled.now k cell }
 {
     let at = cell.row * filled.grid.cols + cell.col;
     Turn {
@@ -36,9 +36,9 @@ fn turn_at(filled: FilledGrid, k: usize, cell: Cell) -> Turn
 }
 
 // The next neighbour, from k on, that flows in and is no outlet; none where none is left.
-fn next_turn(filled: FilledGrid, cell: Cell, k: usize) -> Option<Turn>
-    requires { TurnReady filled cell k }
-    ensures { NextTurn filled.entry cell k result }
+fn next_turn(filled: &FilledGrid, cell: Cell, k: usize) -> Option<Turn>
+    requires { TurnReady filled.now cell k }
+    ensures { NextTurn filled.now cell k result }
 {
     let inner = is_inner(filled.grid.rows, filled.grid.cols, cell);
     for n in k..8 {
@@ -51,16 +51,16 @@ fn next_turn(filled: FilledGrid, cell: Cell, k: usize) -> Option<Turn>
 
 // A cell is visited at its length, which is met if the cell's word says so by the edition.
 fn visit_at(
-    filled: FilledGrid,
+    filled: &FilledGrid,
     edition: Edition,
     cell: Cell,
     len: Length,
     p: Progress,
     found: &mut [u32; 4096],
 ) -> Progress
-    requires number_bound { (number_in filled cell < length filled.subaccumulation.now) × (number_in filled cell < 2 ^ 24) }
+    requires number_bound { (number_in filled.now cell < length filled.now.subaccumulation.now) × (number_in filled.now cell < 2 ^ 24) }
     requires paths_bound { (p.paths < 4096) × (p.visited < 4096) }
-    ensures { VisitedAt edition filled.entry cell len p found.old result found.new }
+    ensures { VisitedAt edition filled.now cell len p found.old result found.new }
 {
     let at = cell.row * filled.grid.cols + cell.col;
     let met = is_met(edition, filled.subaccumulation[at]);
@@ -70,7 +70,7 @@ fn visit_at(
 // A cell is visited, then its inflows.
 #[cycle(trace_cell_trace_inflows)]
 fn trace_cell(
-    filled: FilledGrid,
+    filled: &FilledGrid,
     edition: Edition,
     dropping: bool,
     cell: Cell,
@@ -78,9 +78,9 @@ fn trace_cell(
     p: Progress,
     found: &mut [u32; 4096],
 ) -> Progress
-    requires ready { Ready filled }
-    requires cell_ready { CellReady filled cell len p found.old }
-    ensures { CellTraced edition filled.entry dropping cell len p found.old result found.new }
+    requires ready { Ready filled.now }
+    requires cell_ready { CellReady filled.now cell len p found.old }
+    ensures { CellTraced edition filled.now dropping cell len p found.old result found.new }
 {
     let q = visit_at(filled, edition, cell, len, p, found);
     trace_inflows(filled, edition, dropping, cell, len, 0, q, found)
@@ -89,7 +89,7 @@ fn trace_cell(
 // The inflows of a cell at this length, from neighbour k on: each is dropped or traced before the next.
 #[cycle(trace_cell_trace_inflows)]
 fn trace_inflows(
-    filled: FilledGrid,
+    filled: &FilledGrid,
     edition: Edition,
     dropping: bool,
     cell: Cell,
@@ -98,9 +98,9 @@ fn trace_inflows(
     p: Progress,
     found: &mut [u32; 4096],
 ) -> Progress
-    requires ready { Ready filled }
-    requires inflows_ready { InflowsReady filled cell len k p found.old }
-    ensures { InflowsTraced edition filled.entry dropping cell len k p found.old result found.new }
+    requires ready { Ready filled.now }
+    requires inflows_ready { InflowsReady filled.now cell len k p found.old }
+    ensures { InflowsTraced edition filled.now dropping cell len k p found.old result found.new }
 {
     let Some(t) = next_turn(filled, cell, k) else {
         return p;
@@ -131,6 +131,6 @@ pub fn trace(
     ensures { Traced edition filled.entry dropping cell result found.new }
 {
     let none = Length::none();
-    let p = visit_at(filled, edition, cell, none, begin(), found);
-    trace_inflows(filled, edition, dropping, cell, none, 0, p, found)
+    let p = visit_at(&filled, edition, cell, none, begin(), found);
+    trace_inflows(&filled, edition, dropping, cell, none, 0, p, found)
 }

@@ -30,6 +30,6 @@ pub loop-n-preserved : goal.loop-n-preserved
 loop-n-preserved c =
     let l = c.loop-n in
     let a = c.args in
-    one_further (λ i. inflow_in (grid_of a.filled.grid.rows a.filled.grid.cols a.filled.grid.codes.now) a.filled.outlets.now
-    (a.cell.row * a.filled.grid.cols + a.cell.col) (dir_at i) ≡ none) a.k l.n l.invariant
+    one_further (λ i. inflow_in (grid_of a.filled.now.grid.rows a.filled.now.grid.cols a.filled.now.grid.codes.now) a.filled.now.outlets.now
+    (a.cell.row * a.filled.now.grid.cols + a.cell.col) (dir_at i) ≡ none) a.k l.n l.invariant
     (nothing_there c.tributary.ensures c.in_default.is)
