@@ -67,10 +67,10 @@ module _ (c : Catchment) (old : List ℕ) where
         (f.answers ∙ agrees_cut_free land c.outlets c.accumulation good.agreement)
 
   -- FILLED
-  module _ {number : ℕ} (is : number ≡ first_failed before) (z : number ≡ 0) where
+  module _ (passes : 0 ≡ first_failed before) where
     pub passed_fillable : land.table ≡ table1 → Fillable land.rows land.cols land.codes c.outlets old
-    passed_fillable = fillable [] (sym is ∙ z)
+    passed_fillable = fillable [] (sym passes)
 
     pub filled : {b : Bool} {exit : List ℕ} → Fills land c.outlets old b exit → Subaccumulates c old 0 exit
     unfolding subaccumulate_number
-    filled f = let e = sym is ∙ z in record { answers = sym e; leaves = filled_sub [] e f ∙ leaves_0 e }
+    filled f = record { answers = passes; leaves = filled_sub [] (sym passes) f ∙ leaves_0 (sym passes) }

@@ -1,7 +1,7 @@
 -- The equation along a row, cell by cell, and over the grid, row by row.
 -- Assumes nothing.
 use mathlib.Core.Path.{◌≡◌, refl, sym, ap, ◌∙◌}
-use mathlib.Core.Bool.{Bool, true, false, true≢false}
+use mathlib.Core.Bool.{Bool, true, false, ◌&&◌, true≢false}
 use mathlib.Core.List.{List}
 use Prim.Native.Nat.{ℕ, zero, suc, ◌+◌, ◌-◌, ◌*◌, ◌≤◌, ◌<◌}
 use native.Mathlib.Decide.{dec_lt}
@@ -43,10 +43,7 @@ module _ {rows cols row col : ℕ} {codes a : List ℕ} where
 
 module _ {g : Grid} {a : List ℕ} {row : ℕ} where
   module _ {first : ℕ} where
-    -- no cell yet, one cell more, not all of them, and one that fails
-    pub along_none : AgreesAlong g a row first first true
-    along_none = record { holds = λ e col p q. absurd (omega arith); fails = λ e. absurd (true≢false e) }
-
+    -- one cell more, and one that fails
     pub along_next : {end : ℕ} {r : Bool} → AgreesAlong g a row first end r
         → agrees_at g a (row * g.cols + end) ≡ true → AgreesAlong g a row first (end + 1) r
     along_next {end} h e = record {
@@ -55,12 +52,16 @@ module _ {g : Grid} {a : List ℕ} {row : ℕ} where
       fails = h.fails;
     }
 
-    pub along_less : {end less : ℕ} {r : Bool} → AgreesAlong g a row first end r → less ≤ end
-        → AgreesAlong g a row first less r
-    along_less h l = record { holds = λ y col p q. h.holds y col p (omega arith); fails = h.fails }
-
     pub along_fails : {end : ℕ} → agrees g a ≡ false → AgreesAlong g a row first end false
     along_fails e = record { holds = λ y. absurd (true≢false (sym y)); fails = λ y. e }
+
+    -- one cell more, in the answer so far or not
+    pub along_with : {end : ℕ} (r here : Bool) → AgreesAlong g a row first end r
+        → here ≡ agrees_at g a (row * g.cols + end) → (here ≡ false → agrees g a ≡ false)
+        → AgreesAlong g a row first (end + 1) (r && here)
+    along_with true true h e f = along_next h (sym e)
+    along_with true false h e f = along_fails (f refl)
+    along_with false here h e f = along_fails (h.fails refl)
 
   -- the first cell, the last and those between
   pub along_whole : {r : Bool} → agrees_at g a (row * g.cols + 0) ≡ true

@@ -2,126 +2,103 @@
 // lent numbers may be any.
 #![tactic(auto)]
 
-ghost use Rattle.std.specs.Prelude.{◌≡◌, ◌*◌, ◌+◌, ◌-◌};
-ghost use Rattle.ground.specs.Grid.{grid_of};
+ghost use Rattle.std.specs.Prelude.{◌≡◌, ◌-◌};
 ghost use Rattle.ground.specs.Accumulation.{agrees};
-ghost use Rattle.inflows.specs.Values.{HasCell, InnerCell};
-ghost use Rattle.agreement.specs.Lent.{Lent, LentRow, InnerRow};
+ghost use Rattle.moves.specs.Grids.{ground_of, number_in};
+ghost use Rattle.inflows.specs.Grids.{HasCell, InnerCell};
 ghost use Rattle.agreement.specs.Equation.{agrees_at, AgreesAlong};
+ghost use Rattle.agreement.specs.Grids.{Lent, LentRow, InnerRow};
 
+use cells::Cell;
 use inflows::{inflows_of, inner_inflows};
-use lists::wide;
+use moves::Grid;
 
 // Does it at a cell?
-fn agrees_at(
-    rows: usize,
-    cols: usize,
-    codes: &[u8],
-    accumulation: &[u32],
-    row: usize,
-    col: usize,
-) -> bool
-    requires { HasCell rows cols codes.now accumulation.now row col }
+#[tactic(auto, using(crate::proofs::Cells::inside))]
+fn agrees_at(grid: Grid, accumulation: &[u32], cell: Cell) -> bool
+    requires { HasCell grid accumulation.now cell }
     ensures { result
-        ≡ agrees_at (grid_of rows cols codes.now) accumulation.now (row * cols + col) }
+        ≡ agrees_at (ground_of grid.entry) accumulation.now (number_in grid.entry cell) }
 {
-    let at = row * cols + col;
-    let value = wide(accumulation[at]);
-    if codes[at] == 0 {
+    let at = cell.row * grid.cols + cell.col;
+    let value = u64::from(accumulation[at]);
+    if grid.codes[at] == 0 {
         return value == 0;
     }
-    let sum = inflows_of(rows, cols, codes, accumulation, row, col).sum();
+    let sum = inflows_of(grid, accumulation, cell).sum();
     value == sum + 1
 }
 
 // Does it at an inner cell? All is loaded before the code is looked at, so that no branch is left.
-fn agrees_inside(
-    rows: usize,
-    cols: usize,
-    codes: &[u8],
-    accumulation: &[u32],
-    row: usize,
-    col: usize,
-) -> bool
-    requires { InnerCell rows cols codes.now accumulation.now row col }
+#[tactic(auto, using(crate::proofs::Cells::inside))]
+fn agrees_inside(grid: Grid, accumulation: &[u32], cell: Cell) -> bool
+    requires { InnerCell grid accumulation.now cell }
     ensures { result
-        ≡ agrees_at (grid_of rows cols codes.now) accumulation.now (row * cols + col) }
+        ≡ agrees_at (ground_of grid.entry) accumulation.now (number_in grid.entry cell) }
 {
-    let at = row * cols + col;
-    let value = wide(accumulation[at]);
-    let mut due = inner_inflows(rows, cols, codes, accumulation, row, col).sum() + 1;
-    if codes[at] == 0 {
-        due = 0;
-    }
+    let at = cell.row * grid.cols + cell.col;
+    let value = u64::from(accumulation[at]);
+    let sum = inner_inflows(grid, accumulation, cell).sum();
+    let due = if grid.codes[at] == 0 { 0 } else { sum + 1 };
     value == due
 }
 
 // Does it at every inner cell of a row that is neither the first nor the last? No cell ends the loop, so that several
 // can be looked at at once.
-fn inside_agrees(rows: usize, cols: usize, codes: &[u8], accumulation: &[u32], row: usize) -> bool
-    requires { InnerRow rows cols codes.now accumulation.now row }
-    ensures { AgreesAlong (grid_of rows cols codes.now) accumulation.now row 1
-        (cols - 1) result }
+fn inside_agrees(grid: Grid, accumulation: &[u32], row: usize) -> bool
+    requires { InnerRow grid accumulation.now row }
+    ensures { AgreesAlong (ground_of grid.entry) accumulation.now row 1 (grid.entry.cols - 1) result }
 {
     let mut agreed = true;
-    let mut col: usize = 1;
-    while col + 1 < cols {
-        let holds = agrees_inside(rows, cols, codes, accumulation, row, col);
-        col += 1;
-        if !holds {
-            agreed = false;
-        }
+    for col in 1..grid.cols - 1 {
+        agreed &= agrees_inside(grid, accumulation, Cell { row, col });
     }
     agreed
 }
 
 // Does it between the first and the last column of any row?
-fn edge_agrees(rows: usize, cols: usize, codes: &[u8], accumulation: &[u32], row: usize) -> bool
-    requires { LentRow rows cols codes.now accumulation.now row }
-    ensures { AgreesAlong (grid_of rows cols codes.now) accumulation.now row 1
-        (cols - 1) result }
+fn edge_agrees(grid: Grid, accumulation: &[u32], row: usize) -> bool
+    requires { LentRow grid accumulation.now row }
+    ensures { AgreesAlong (ground_of grid.entry) accumulation.now row 1 (grid.entry.cols - 1) result }
 {
-    let mut col: usize = 1;
-    while col + 1 < cols {
-        if !agrees_at(rows, cols, codes, accumulation, row, col) {
+    for col in 1..grid.cols - 1 {
+        if !agrees_at(grid, accumulation, Cell { row, col }) {
             return false;
         }
-        col += 1;
     }
     true
 }
 
 // Does it at every cell of a row? The first and the last column are on the border; the cells between are inner cells
 // unless the row is the first or the last.
-fn row_agrees(rows: usize, cols: usize, codes: &[u8], accumulation: &[u32], row: usize) -> bool
-    requires { LentRow rows cols codes.now accumulation.now row }
-    ensures { AgreesAlong (grid_of rows cols codes.now) accumulation.now row 0 cols result }
+fn row_agrees(grid: Grid, accumulation: &[u32], row: usize) -> bool
+    requires { LentRow grid accumulation.now row }
+    ensures { AgreesAlong (ground_of grid.entry) accumulation.now row 0 grid.entry.cols result }
 {
-    if !agrees_at(rows, cols, codes, accumulation, row, 0) {
+    let first = Cell { row, col: 0 };
+    let last = Cell {
+        row,
+        col: grid.cols - 1,
+    };
+    if !agrees_at(grid, accumulation, first) || !agrees_at(grid, accumulation, last) {
         return false;
     }
-    if !agrees_at(rows, cols, codes, accumulation, row, cols - 1) {
-        return false;
+    if 0 < row && row + 1 < grid.rows {
+        inside_agrees(grid, accumulation, row)
+    } else {
+        edge_agrees(grid, accumulation, row)
     }
-    if 0 < row {
-        if row + 1 < rows {
-            return inside_agrees(rows, cols, codes, accumulation, row);
-        }
-    }
-    edge_agrees(rows, cols, codes, accumulation, row)
 }
 
 // Does it at every cell?
-pub fn agrees_all(rows: usize, cols: usize, codes: &[u8], accumulation: &[u32]) -> bool
-    requires { Lent rows cols codes.now accumulation.now }
-    ensures { result ≡ agrees (grid_of rows cols codes.now) accumulation.now }
+pub fn agrees_all(grid: Grid, accumulation: &[u32]) -> bool
+    requires { Lent grid accumulation.now }
+    ensures { result ≡ agrees (ground_of grid.entry) accumulation.now }
 {
-    let mut row: usize = 0;
-    while row < rows {
-        if !row_agrees(rows, cols, codes, accumulation, row) {
+    for row in 0..grid.rows {
+        if !row_agrees(grid, accumulation, row) {
             return false;
         }
-        row += 1;
     }
     true
 }

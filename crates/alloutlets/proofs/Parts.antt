@@ -4,15 +4,16 @@ use mathlib.Core.Path.{◌≡◌, refl, sym, ap, ◌∙◌}
 use mathlib.Core.Bool.{Bool, true, false, cond, ◌&&◌, and-false}
 use mathlib.Core.List.{List}
 use Prim.Native.Nat.{ℕ, zero, suc, ◌+◌, ◌-◌, ◌≤◌, ◌<◌}
+use native.Mathlib.Numerals.{add-one}
 use native.Mathlib.Omega.{arith}
 use lib.ListN.{length, get_or, take, drop, length-take}
+use Rattle.std.proofs.lemmas.List.{get_or-take}
 use lib.Dec.{eqb, leb, ltb}
 use borrow.Author.Tests.{ne_eqb, le-leb, lt-leb, lt-ltb, le-ltb, leb-true}
 use Rattle.lists.specs.Lists.{sum_of}
 use Rattle.lists.proofs.Sums.{sum_next, sum_more}
-use Rattle.alloutlets.specs.Part.{starts_before, part_count, part_begin, starts_part}
+use Rattle.alloutlets.specs.Part.{starts_before, part_count, part_begin, starts_part, part_at}
 use Rattle.alloutlets.specs.declared.Part.{Part}
-use Rattle.alloutlets.specs.Part.{part_at}
 
 abbrev empty : Part
 empty = record { begin = 0; count = 0 }
@@ -39,11 +40,26 @@ module _ (counts : List ℕ) (choice n : ℕ) where
   pub shows_past : n < starts_before counts choice + own → empty ≡ part_at counts choice n
   shows_past h = none_shown (past h)
 
-  -- or before it
-  pub shows_early : (k : ℕ) → k < choice → choice < length counts
-      → n < sum_of (take k counts) + get_or counts k 0 → empty ≡ part_at counts choice n
-  shows_early k h i p =
-      shows_past (omega (arith, p, sum_next counts k (omega (arith, h, i)), sum_more counts (suc k) choice h))
+  -- or before it: the counts before its own are taken one after another
+  module _ (i : choice < length counts) (k : ℕ) (h : k < length (take choice counts)) where
+    abbrev count_before : ℕ
+    count_before = get_or (take choice counts) k 0
+
+    early : k < choice
+    early = omega (arith, h, length-take choice counts)
+
+    pub sum_before : sum_of (take (k + 1) counts) ≡ sum_of (take k counts) + count_before
+    sum_before = rw (add-one k, get_or-take choice counts k 0 early) (sum_next counts k (omega (arith, early, i)))
+
+    pub shows_early : n < sum_of (take k counts) + count_before → empty ≡ part_at counts choice n
+    shows_early p = shows_past (omega (arith, p, sum_before, sum_more counts (k + 1) choice (omega (arith, early))))
+
+  -- which are all taken in the end
+  pub all_before : {k begin : ℕ} → choice < length counts → k ≤ length (take choice counts)
+      → length (take choice counts) ≤ k → begin ≡ sum_of (take k counts) → begin ≡ starts_before counts choice
+  all_before {k} i most least is =
+      let e : k ≡ choice = omega (arith, i, most, least, length-take choice counts) in
+      is ∙ ap (λ (j : ℕ). sum_of (take j counts)) e
 
   -- within them
   module _ (i : choice < length counts) (p : starts_before counts choice + own ≤ n) where
@@ -93,7 +109,8 @@ module _ (starts counts : List ℕ) (choice : ℕ) {p : Part} (e : p ≡ part_at
   -- and begins after the counts before its own, unless it is empty
   pub part_begins : 0 < p.count → p.begin ≡ starts_before counts choice
   unfolding part_begin
-  part_begins h = ap (λ (q : Part). q.begin) e ∙ rw (ne_eqb (part_count counts choice (length starts)) 0 (λ z. omega (arith, h, z, counted)))
+  part_begins h = ap (λ (q : Part). q.begin) e
+      ∙ rw (ne_eqb (part_count counts choice (length starts)) 0 (λ z. omega (arith, h, z, counted)))
 
   pub part_is : take (p.begin + p.count - p.begin) (drop p.begin starts) ≡ starts_part starts counts choice
   part_is = go p.count refl

@@ -4,10 +4,9 @@
 ghost use Rattle.std.specs.Prelude.{◌≡◌};
 ghost use Rattle.alloutlets.specs.Part.{part_at, ShowsStarts};
 
-use lists::index_of;
-
 // What became of tracing all outlets: the number of the first check that fails, 0 if none does, and the sums of the
 // cells visited and dropped.
+// It is no `Result`: the sums are told beside 21 too (`sums_told`).
 #[derive(Clone, Copy)]
 pub struct TracedAll {
     pub number: u32,
@@ -31,21 +30,16 @@ pub fn part_at(n: usize, counts: &[u32], choice: usize) -> Part
     if counts.len() <= choice {
         return empty;
     }
-    let mut begin: usize = 0;
-    let mut k: usize = 0;
-    while k < choice {
-        let more = index_of(counts[k]);
+    let mut begin = 0;
+    for &more in &counts[..choice] {
+        let more = more as usize;
         if n - begin < more {
             return empty;
         }
         begin += more;
-        k += 1;
     }
-    let count = index_of(counts[choice]);
-    if n - begin < count {
-        return empty;
-    }
-    if count == 0 {
+    let count = counts[choice] as usize;
+    if count == 0 || n - begin < count {
         return empty;
     }
     Part { begin, count }
@@ -58,7 +52,5 @@ pub fn starts_of<'a>(starts: &'a [u32], counts: &[u32], choice: usize) -> &'a [u
         result.now result.ref_ptr }
 {
     let part = part_at(starts.len(), counts, choice);
-    let begin = part.begin;
-    let end = part.begin + part.count;
-    &starts[begin..end]
+    &starts[part.begin..part.begin + part.count]
 }

@@ -6,3 +6,4 @@ pub mod ConversionCases
 pub mod Accumulated
 pub mod Judged
 pub mod MarkedCases
+pub mod Refusals

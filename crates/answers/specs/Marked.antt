@@ -2,7 +2,7 @@
 -- Assumes nothing.
 use Rattle.std.specs.Prelude.{true, List, [], ◌∷◌, ◌++◌, ℕ, ◌^◌, replicate}
 use Rattle.lists.specs.Slices.{zeros}
-use Rattle.lengths.specs.declared.Order.TheVariants.{Shorter, Longer}
+use Rattle.std.specs.declared.cmp.Ordering.TheVariants.{Less, Greater}
 use Rattle.lengths.specs.Rule.{counts}
 use Rattle.answers.specs.Entries.{Catchment, catchment}
 use Rattle.answers.specs.FlowLengths.{length_grids}
@@ -61,8 +61,8 @@ marked_cases =
     ∷ accumulates 1 2 (1 ∷ 0 ∷ []) (nines 3) 0 (1 ∷ 0 ∷ 9 ∷ [])
     ∷ subaccumulates (accumulated 1 2 (1 ∷ 0 ∷ []) []) 15 (nines 3)
     -- M8 and M9
-    ∷ compares (counts 7 0) (counts 0 5) Shorter
-    ∷ compares (counts 17 0) (counts 0 12) Longer
+    ∷ compares (counts 7 0) (counts 0 5) Less
+    ∷ compares (counts 17 0) (counts 0 12) Greater
     -- M10, by every entry that checks an accumulation
     ∷ checks 1 3 codes2 (1 ∷ 3 ∷ 2 ∷ []) 14
     ∷ subaccumulates ground10 14 (nines 4)

@@ -5,7 +5,7 @@ use Rattle.std.specs.Prelude.{Bool, true, false, List, [], ◌∷◌, ◌++◌, 
 use Rattle.lists.specs.Lists.{up_to}
 use Rattle.lists.specs.Slices.{zeros}
 use Rattle.lengths.specs.declared.Length.{Length}
-use Rattle.lengths.specs.declared.Order.{Order}
+use Rattle.std.specs.declared.cmp.Ordering.{Ordering}
 use Rattle.lengths.specs.Rule.{compared}
 use Rattle.ground.specs.Grid.{Grid, grid_of, cell_count}
 use Rattle.search.specs.Tracing.{numbers_each, first_tracing}
@@ -78,7 +78,7 @@ ways a b paths visited dropped cells starts =
 
 pub data Mark : Type 0 where
   -- two lengths compared
-  compares : Length → Length → Order → Mark
+  compares : Length → Length → Ordering → Mark
   -- accumulating: the lent grid, the number, what is left
   accumulates : (rows cols : ℕ) (codes given : List ℕ) → ℕ → List ℕ → Mark
   -- a lent accumulation checked: the number

@@ -5,8 +5,6 @@
 ghost use Rattle.std.specs.Prelude.{◌*◌, ◌+◌, ◌≤◌, ◌<◌};
 ghost use Rattle.cells.specs.Numbers.{RowAndColumn, TableFits, CellTable};
 
-use lists::index_of;
-
 // A cell of a grid.
 #[derive(Clone, Copy)]
 pub struct Cell {
@@ -22,14 +20,12 @@ impl Cell {
     {
         let right = self.col + 1;
         if right < cols {
-            return Cell {
-                row: self.row,
-                col: right,
-            };
-        }
-        Cell {
-            row: self.row + 1,
-            col: 0,
+            Cell { col: right, ..self }
+        } else {
+            Cell {
+                row: self.row + 1,
+                col: 0,
+            }
         }
     }
 }
@@ -40,7 +36,7 @@ pub fn split_number(cols: usize, number: u32) -> Cell
     requires { 0 < cols }
     ensures { RowAndColumn cols number result.row result.col }
 {
-    let at = index_of(number);
+    let at = number as usize;
     Cell {
         row: at / cols,
         col: at % cols,
@@ -55,7 +51,7 @@ pub struct SheetCell {
 }
 
 // The cell of a sheet that a number names, where the number comes from the library itself: the rows above it are
-// counted off, of which a sheet has 63 at most.
+// counted off, of which a sheet has 63 at most. What is left decides when it ends, so there is no range to go through.
 pub fn count_off(cols: u32, number: u32) -> SheetCell
     requires { 0 < cols }
     ensures { RowAndColumn cols number result.row result.col }
@@ -77,11 +73,9 @@ pub fn table_cells(rows: usize, cols: usize, rows_of: &mut [u32], cols_of: &mut 
 {
     let n = rows * cols;
     let mut cell = Cell { row: 0, col: 0 };
-    let mut k: usize = 0;
-    while k < n {
+    for k in 0..n {
         rows_of[k] = cell.row as u32;
         cols_of[k] = cell.col as u32;
         cell = cell.next(cols);
-        k += 1;
     }
 }

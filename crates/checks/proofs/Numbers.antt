@@ -1,7 +1,7 @@
 -- The number of the first check that fails, by the tests made before it.
 -- Assumes nothing.
 use mathlib.Core.Path.{◌≡◌, sym, ◌∙◌}
-use mathlib.Core.Bool.{true, false}
+use mathlib.Core.Bool.{Bool, true, false, ◌&&◌}
 use mathlib.Core.List.{List, [], ◌∷◌}
 use Prim.Native.Nat.{ℕ, ◌*◌, ◌≤◌, ◌<◌}
 use lib.ListN.{length, get_or}
@@ -72,28 +72,26 @@ module _ (c : Catchment) (lent : List ℕ)
   beyond = beyond_agreed c.grid lent c.accumulation
       (check15 outlets ∷ check16 c.grid outlets ∷ check17 outlets ∷ []) z
 
-  pub not_outlet : length outlets < 1 → 15 ≡ outlet_number
+  abbrev few : Bool
+  few = leb 1 (length outlets) && leb (length outlets) 256
+
+  pub not_few : few ≡ false → 15 ≡ outlet_number
   unfolding first_failed check15
-  not_outlet h = sym (beyond ∙ rw (lt-leb 1 (length outlets) h))
+  not_few e = sym (beyond ∙ rw e)
 
-  module _ (h : 1 ≤ length outlets) where
-    pub too_many : 256 < length outlets → 15 ≡ outlet_number
-    unfolding first_failed check15
-    too_many i = sym (beyond ∙ rw (le-leb 1 (length outlets) h, lt-leb (length outlets) 256 i))
+  module _ (f : few ≡ true) where
+    pub not_all_placed : all_pass (is_placed c.grid) outlets ≡ false → 16 ≡ outlet_number
+    unfolding first_failed check15 check16
+    not_all_placed e = sym (beyond ∙ rw (f, e))
 
-    module _ (i : length outlets ≤ 256) where
-      pub not_all_placed : all_pass (is_placed c.grid) outlets ≡ false → 16 ≡ outlet_number
-      unfolding first_failed check15 check16
-      not_all_placed e = sym (beyond ∙ rw (le-leb 1 (length outlets) h, le-leb (length outlets) 256 i, e))
+    module _ (p : all_pass (is_placed c.grid) outlets ≡ true) where
+      pub listed_twice : different outlets ≡ false → 17 ≡ outlet_number
+      unfolding first_failed check15 check16 check17
+      listed_twice e = sym (beyond ∙ rw (f, p, e))
 
-      module _ (p : all_pass (is_placed c.grid) outlets ≡ true) where
-        pub listed_twice : different outlets ≡ false → 17 ≡ outlet_number
-        unfolding first_failed check15 check16 check17
-        listed_twice e = sym (beyond ∙ rw (le-leb 1 (length outlets) h, le-leb (length outlets) 256 i, p, e))
-
-        pub outlets_pass : different outlets ≡ true → 0 ≡ outlet_number
-        unfolding first_failed check15 check16 check17
-        outlets_pass e = sym (beyond ∙ rw (le-leb 1 (length outlets) h, le-leb (length outlets) 256 i, p, e))
+      pub outlets_pass : different outlets ≡ true → 0 ≡ outlet_number
+      unfolding first_failed check15 check16 check17
+      outlets_pass e = sym (beyond ∙ rw (f, p, e))
 
 -- after 17
 module _ (c : Catchment) (place : ℕ) (lent : List ℕ) (z : first_failed (outlet_checks c lent) ≡ 0) where

@@ -3,7 +3,8 @@
 use mathlib.Core.Path.{◌≡◌, refl, sym, ap, ap₂, ◌∙◌, subst}
 use mathlib.Core.Bool.{Bool, true, false, not, ◌||◌, or-true, true≢false}
 use mathlib.Core.List.{List, [], ◌∷◌}
-use mathlib.Core.Option.{Option, none, some}
+use mathlib.Core.Option.{Option as Maybe, none, some}
+use Rattle.std.specs.Prelude.{Option, Some, None}
 use Prim.Native.Nat.{ℕ, zero, suc, ◌+◌, ◌*◌, ◌%◌, ◌≤◌, ◌<◌, ◌^◌}
 use native.Mathlib.Omega.{arith}
 use lib.ListN.{length, get_or, take}
@@ -197,9 +198,9 @@ module _ {rows cols : ℕ} {codes outlets : List ℕ} {old : LengthGrids} (can :
             arrival_small land outlets x (record { cell = r.outlet; len = down_at now x }) r.arrives,
           )
 
-      module _ {r : ℕ} (turn : NextTurn (grid_of rows cols codes) dd x k r) where
+      module _ {r : Option ℕ} (turn : NextTurn (grid_of rows cols codes) dd x k r) where
         -- DOWN
-        module _ (over : 8 ≤ r) where
+        module _ (over : r ≡ None) where
           ahead : (d : Dir) (y : ℕ) → Tributary (next land) (is_outlet land outlets) x d y → k ≤ place_of d → ⊥
           ahead = none_ahead land outlets dd marked at.climbing.given.unmarked x_ground turn over
 
@@ -304,12 +305,12 @@ module _ {rows cols : ℕ} {codes outlets : List ℕ} {old : LengthGrids} (can :
                     }) at.climbing.here.is_entered in
                     let a = at.climbing.given.arrived x at.climbing.here.is_entered in
                     let b = at.climbing.given.arrived p e in
-                    let q : ◌≡◌ {A = Option (At Length)} (some (record { cell = a.outlet; len = down_at now x }))
+                    let q : ◌≡◌ {A = Maybe (At Length)} (some (record { cell = a.outlet; len = down_at now x }))
                     (some (record { cell = b.outlet; len = plus_step (down_at now p) (step_of s) })) = sym a.arrives
                     ∙ arrival_up land can.accumulation can.agreement outlets x h
                     (record { cell = b.outlet; len = down_at now p }) (not_outlet m) to b.arrives in
                     let l : down_at now x ≡ plus_step (down_at now p) (step_of s) =
-                    ap (λ (o : Option (At Length)). elim o [ none ↦ counts 0 0 | some z ↦ z.len ]) q in
+                    ap (λ (o : Maybe (At Length)). elim o [ none ↦ counts 0 0 | some z ↦ z.len ]) q in
                     omega (
                       arith,
                       step_counts (down_at now p) (step_of s),
@@ -318,24 +319,24 @@ module _ {rows cols : ℕ} {codes outlets : List ℕ} {old : LengthGrids} (can :
                     )
 
         -- UP
-        module _ (found : r < 8) where
-          pub has_neighbour : HasNeighbour (grid_of rows cols codes) x r
+        module _ {n : ℕ} (found : r ≡ Some n) where
+          pub has_neighbour : HasNeighbour (grid_of rows cols codes) x n
           has_neighbour = found_beside land outlets dd marked at.climbing.given.unmarked x_ground turn found
 
-          module _ {y : ℕ} (there : neighbour (grid_of rows cols codes) x (dir_at r) ≡ some y) where
-            u : Tributary (next land) (is_outlet land outlets) x (dir_at r) y
+          module _ {y : ℕ} (there : neighbour (grid_of rows cols codes) x (dir_at n) ≡ some y) where
+            u : Tributary (next land) (is_outlet land outlets) x (dir_at n) y
             u = found_tributary land outlets dd marked at.climbing.given.unmarked x_ground turn found there
 
-            far : k ≤ place_of (dir_at r)
+            far : k ≤ place_of (dir_at n)
             far = found_far land outlets dd marked at.climbing.given.unmarked x_ground turn found
 
             skipped : (d : Dir) (z : ℕ) → Tributary (next land) (is_outlet land outlets) x d z → k ≤ place_of d
-                → place_of d < place_of (dir_at r) → ⊥
+                → place_of d < place_of (dir_at n) → ⊥
             skipped = found_next land outlets dd marked at.climbing.given.unmarked x_ground turn found
 
             y_inside : y < rows * cols
             y_inside = ground_within land y
-                ((network land).solid y (record { cell = x; step = opposite (dir_at r) }) u.flows)
+                ((network land).solid y (record { cell = x; step = opposite (dir_at n) }) u.flows)
 
             pub countable_down : Countable x y ds dd
             countable_down = record {
@@ -353,9 +354,9 @@ module _ {rows cols : ℕ} {codes outlets : List ℕ} {old : LengthGrids} (can :
 
             module _ {step : Step} {ds' dd' : List ℕ} (is_step : step ≡ step_by (lead_of (get_or codes y 0)))
                 (f : GivesDown x y step ds dd ds' dd') where
-              f' : GivesDown x y (step_of (opposite (dir_at r))) ds dd ds' dd'
+              f' : GivesDown x y (step_of (opposite (dir_at n))) ds dd ds' dd'
               f' = subst (λ (q : Step). GivesDown x y q ds dd ds' dd')
-                  (is_step ∙ step_next y (record { cell = x; step = opposite (dir_at r) }) u.flows) f
+                  (is_step ∙ step_next y (record { cell = x; step = opposite (dir_at n) }) u.flows) f
 
               pub standing_up : {row' col' k' : ℕ} → Numbered rows cols codes steps row' col' y → k' ≡ 0
                   → Standing rows cols codes outlets steps j row' col' y k' old (length_grids ds' dd' us ud)
@@ -369,9 +370,9 @@ module _ {rows cols : ℕ} {codes outlets : List ℕ} {old : LengthGrids} (can :
                   up_diagonal = kept_all;
                 });
                 climbing = record {
-                  traversal = entering (next land) (is_outlet land outlets) t x k at.climbing.here (dir_at r) y u far
+                  traversal = entering (next land) (is_outlet land outlets) t x k at.climbing.here (dir_at n) y u far
                       skipped;
-                  here = entering_here (next land) (is_outlet land outlets) t x k at.climbing.here (dir_at r) y u far
+                  here = entering_here (next land) (is_outlet land outlets) t x k at.climbing.here (dir_at n) y u far
                       skipped;
                   given = given_up land outlets can.accumulation can.agreement few at.climbing.given
                       at.climbing.here u far skipped room_now.down_straight room_now.down_diagonal;
@@ -383,7 +384,7 @@ module _ {rows cols : ℕ} {codes outlets : List ℕ} {old : LengthGrids} (can :
               })
 
               abbrev own : Length
-              own = plus_step (length_below ds dd x) (step_of (opposite (dir_at r)))
+              own = plus_step (length_below ds dd x) (step_of (opposite (dir_at n)))
 
               straight_y : get_or ds' y 0 ≡ own.straight
               straight_y = ap (λ (l : List ℕ). get_or l y 0) f'.straights
@@ -394,13 +395,13 @@ module _ {rows cols : ℕ} {codes outlets : List ℕ} {old : LengthGrids} (can :
                   ∙ get_or-set_same dd y own.diagonal 0 countable_down.y_diagonal
 
               own_is : own.straight + own.diagonal ≡ get_or ds x 0 + get_or dd x 0 % 2 ^ 31 + 1
-              own_is = omega (arith, step_counts (length_below ds dd x) (step_of (opposite (dir_at r))))
+              own_is = omega (arith, step_counts (length_below ds dd x) (step_of (opposite (dir_at n))))
 
               -- one blank cell less
               pub fewer_blanks : blanks (rows * cols) ds dd ≡ suc (blanks (rows * cols) ds' dd')
               fewer_blanks =
                   let v = at.climbing.given in
-                  let fresh : t.entered y ≡ false = at.climbing.here.ahead (dir_at r) y u far in
+                  let fresh : t.entered y ≡ false = at.climbing.here.ahead (dir_at n) y u far in
                   let s : get_or ds y 0 + get_or dd y 0 ≡ 0 = omega
                   (arith, v.no_straight y y_inside fresh, v.no_diagonal y y_inside fresh u.not_outlet) in
                   many_more (λ c. eqb (get_or ds' c 0 + get_or dd' c 0) 0) (λ c. eqb (get_or ds c 0 + get_or dd c 0) 0)

@@ -3,10 +3,12 @@
 
 ghost use Rattle.std.specs.Prelude.{◌≡◌};
 ghost use Rattle.answers.specs.Converting.{conversion, Converts};
+ghost use Rattle.answers.specs.Refusals.{number_told};
 ghost use Rattle.converting.specs.Rewriting.{counterpart, Pairs, Readable, Rewritten};
 
-use checks::number_in;
-use tables::{codes_of, is_table};
+use answers::Refusal;
+use checks::check_grid_in;
+use tables::CodeTable;
 
 // The code of one table at the place where the other has this code. No code ends the loop, so that several can be
 // converted at once.
@@ -14,14 +16,10 @@ fn counterpart_of(from: &[u8; 10], to: &[u8; 10], code: u8) -> u8
     requires { Pairs from.now to.now }
     ensures { result ≡ counterpart 10 from.now to.now code }
 {
-    let mut found: u8 = 0;
-    let mut k: usize = 0;
-    while k < 10 {
-        let known = from[k];
-        let other = to[k];
-        k += 1;
-        if known == code {
-            found = other;
+    let mut found = 0;
+    for (k, known) in from.iter().enumerate() {
+        if *known == code {
+            found = to[k];
         }
     }
     found
@@ -33,10 +31,8 @@ fn rewrite(from: &[u8; 10], to: &[u8; 10], n: usize, codes: &[u8], converted: &m
     ensures { Rewritten n n from.now to.now codes.now converted.old
         converted.new }
 {
-    let mut at: usize = 0;
-    while at < n {
+    for at in 0..n {
         converted[at] = counterpart_of(from, to, codes[at]);
-        at += 1;
     }
 }
 
@@ -49,22 +45,13 @@ pub fn convert(
     cols: usize,
     codes: &[u8],
     converted: &mut [u8],
-) -> u32
-    ensures { Converts (conversion from to rows cols codes.now) converted.old result
-        converted.new }
+) -> Result<(), Refusal>
+    ensures { Converts (conversion from to rows cols codes.now) converted.old
+        (number_told result) converted.new }
 {
-    if !is_table(from) {
-        return 24;
-    }
-    if !is_table(to) {
-        return 24;
-    }
-    let source = codes_of(from);
-    let number = number_in(&source, rows, cols, codes, &[converted.len()]);
-    if number != 0 {
-        return number;
-    }
-    let target = codes_of(to);
+    let source = CodeTable::try_from(from)?.codes();
+    let target = CodeTable::try_from(to)?.codes();
+    check_grid_in(&source, rows, cols, codes, &[converted.len()])?;
     rewrite(&source, &target, rows * cols, codes, converted);
-    0
+    Ok(())
 }

@@ -1,6 +1,6 @@
 -- The first word of a cell: itself, and how many neighbours flow in.
 -- Assumes nothing.
-use Rattle.std.specs.Prelude.{◌≡◌, cond, ◌⊎◌, List, ℕ, suc, ◌+◌, ◌*◌, ◌≤◌, ◌<◌, ◌^◌, length, get_or}
+use Rattle.std.specs.Prelude.{◌≡◌, cond, ◌⊎◌, List, ℕ, zero, suc, ◌+◌, ◌*◌, ◌≤◌, ◌<◌, ◌^◌, length, get_or}
 use Rattle.ground.specs.Grid.{Grid, cell_count, ground, inflows}
 use Rattle.moves.specs.Lent.{LentGrid}
 
@@ -9,6 +9,11 @@ pub record Countable (rows cols : ℕ) (codes words : List ℕ) : Type 0 where
   pub grid : LentGrid rows cols codes
   pub some_cols : 0 < cols
   pub has_words : rows * cols ≤ length words
+
+-- the word of a cell with a code and so many inflows
+abbrev pub word_by : ℕ → ℕ → ℕ
+word_by zero n = 0
+word_by (suc code) n = 1 + 2 ^ 25 * n
 
 module _ (g : Grid) where
   -- 0 at a null cell, else 1 and 2 ^ 25 for each inflow

@@ -2,130 +2,101 @@
 // once, by looking at the neighbours, and no word is read; so the inner cells of a row are counted several at once.
 #![tactic(auto)]
 
-ghost use Rattle.std.specs.Prelude.{◌≡◌, ◌*◌, ◌+◌, ◌-◌, ◌≤◌, ◌<◌};
-ghost use Rattle.ground.specs.Grid.{grid_of};
-ghost use Rattle.moves.specs.Lent.{OnCell};
-ghost use Rattle.inflows.specs.Values.{InnerOn, flows_at};
-ghost use Rattle.counting.specs.Counting.{counted_word, Countable, Counts, CountsRow};
+ghost use Rattle.std.specs.Prelude.{◌≡◌, count_by, ◌*◌, ◌+◌, ◌-◌, ◌≤◌, ◌<◌};
+ghost use Rattle.moves.specs.Grids.{On, number_in, ground_of};
+ghost use Rattle.inflows.specs.Values.{flows_at};
+ghost use Rattle.inflows.specs.Grids.{InnerOn};
+ghost use Rattle.counting.specs.Counting.{word_by, counted_word, Counts, CountsRow};
+ghost use Rattle.counting.specs.Grids.{Countable};
 
+use cells::Cell;
 use inflows::inner_neighbour;
-use moves::{Spot, inflow_from};
+use moves::{Grid, inflow_from};
+use std::array;
 
 // One inflow, in a cell's word.
 pub const INFLOW: u32 = 33554432;
 
 // Does neighbour k of a cell flow in?
-fn flows_in(rows: usize, cols: usize, codes: &[u8], row: usize, col: usize, k: usize) -> bool
-    requires { OnCell rows cols codes.now row col }
-    ensures { result ≡ flows_at (grid_of rows cols codes.now) (row * cols + col) k }
+fn flows_in(grid: Grid, cell: Cell, k: usize) -> bool
+    requires { On grid cell }
+    ensures { result ≡ flows_at (ground_of grid.entry) (number_in grid.entry cell) k }
 {
-    match inflow_from(rows, cols, codes, row, col, k) {
-        Spot::Off => false,
-        Spot::On { row: _, col: _ } => true,
-    }
+    inflow_from(grid, cell, k).is_some()
 }
 
-// The word of a cell: 0 at a null cell, else 1 and what flows in.
-fn word_at(rows: usize, cols: usize, codes: &[u8], row: usize, col: usize) -> u32
-    requires { OnCell rows cols codes.now row col }
-    ensures { result ≡ counted_word (grid_of rows cols codes.now) (row * cols + col) }
+// The word of a cell with this code, by which neighbours flow in: 0 at a null cell, else 1 and the inflows. It adds up
+// before it asks for the code, so that no branch is left.
+fn word_of(code: u8, flows: &[bool; 8]) -> u32
+    ensures { result ≡ word_by code (count_by (λ b. b) flows.now) }
 {
-    let mut word: u32 = 1;
-    let mut k: usize = 0;
-    while k < 8 {
-        let flows = flows_in(rows, cols, codes, row, col, k);
-        k += 1;
-        if flows {
-            word += INFLOW;
-        }
-    }
-    if codes[row * cols + col] == 0 {
-        return 0;
-    }
-    word
+    let inflows: u32 = flows.iter().map(|flows| u32::from(*flows)).sum();
+    let word = 1 + INFLOW * inflows;
+    if code == 0 { 0 } else { word }
 }
 
-// The word of an inner cell.
-fn inner_word_at(rows: usize, cols: usize, codes: &[u8], row: usize, col: usize) -> u32
-    requires { InnerOn rows cols codes.now row col }
-    ensures { result ≡ counted_word (grid_of rows cols codes.now) (row * cols + col) }
+// The word of any cell.
+fn word_at(grid: Grid, cell: Cell) -> u32
+    requires { On grid cell }
+    ensures { result ≡ counted_word (ground_of grid.entry) (number_in grid.entry cell) }
 {
-    let mut word: u32 = 1;
-    let mut k: usize = 0;
-    while k < 8 {
-        let n = inner_neighbour(rows, cols, codes, row, col, k);
-        k += 1;
-        if n.flows {
-            word += INFLOW;
-        }
-    }
-    let here = row * cols + col;
-    if codes[here] == 0 {
-        return 0;
-    }
-    word
+    word_of(
+        grid.codes[cell.row * grid.cols + cell.col],
+        &array::from_fn(|k| flows_in(grid, cell, k)),
+    )
+}
+
+// The word of an inner cell. No border is tested.
+fn inner_word_at(grid: Grid, cell: Cell) -> u32
+    requires { InnerOn grid cell }
+    ensures { result ≡ counted_word (ground_of grid.entry) (number_in grid.entry cell) }
+{
+    let here = cell.row * grid.cols + cell.col;
+    word_of(
+        grid.codes[here],
+        &array::from_fn(|k| inner_neighbour(grid, cell, k).flows),
+    )
 }
 
 // Counts the inner cells of a row that is neither the first nor the last.
-fn count_inside(rows: usize, cols: usize, codes: &[u8], words: &mut [u32], row: usize)
-    requires { Countable rows cols codes.now words.old × (1 ≤ row) × (row + 1 < rows) }
-    ensures { CountsRow (grid_of rows cols codes.now) row 1 (cols - 1) words.old
-        words.new }
+fn count_inside(grid: Grid, words: &mut [u32], row: usize)
+    requires { Countable grid words.old × (1 ≤ row) × (row + 1 < grid.rows) }
+    ensures { CountsRow (ground_of grid.entry) row 1 (grid.entry.cols - 1) words.old words.new }
 {
-    let mut col: usize = 1;
-    while col + 1 < cols {
-        words[row * cols + col] = inner_word_at(rows, cols, codes, row, col);
-        col += 1;
+    for col in 1..grid.cols - 1 {
+        words[row * grid.cols + col] = inner_word_at(grid, Cell { row, col });
     }
 }
 
 // Counts the cells of a row from a column to before another.
-fn count_part(
-    rows: usize,
-    cols: usize,
-    codes: &[u8],
-    words: &mut [u32],
-    row: usize,
-    from: usize,
-    end: usize,
-)
-    requires { Countable rows cols codes.now words.old × (row < rows) × (from ≤ end) × (end ≤ cols) }
-    ensures { CountsRow (grid_of rows cols codes.now) row from end words.old
-        words.new }
+fn count_part(grid: Grid, words: &mut [u32], row: usize, from: usize, end: usize)
+    requires { Countable grid words.old × (row < grid.rows) × (from ≤ end) × (end ≤ grid.cols) }
+    ensures { CountsRow (ground_of grid.entry) row from end words.old words.new }
 {
-    let mut col = from;
-    while col < end {
-        words[row * cols + col] = word_at(rows, cols, codes, row, col);
-        col += 1;
+    for col in from..end {
+        words[row * grid.cols + col] = word_at(grid, Cell { row, col });
     }
 }
 
 // Counts a row: at the grid's border every cell by itself, else the cells between the first and the last at once.
-fn count_row(rows: usize, cols: usize, codes: &[u8], words: &mut [u32], row: usize)
-    requires { Countable rows cols codes.now words.old × (row < rows) }
-    ensures { CountsRow (grid_of rows cols codes.now) row 0 cols words.old
-        words.new }
+fn count_row(grid: Grid, words: &mut [u32], row: usize)
+    requires { Countable grid words.old × (row < grid.rows) }
+    ensures { CountsRow (ground_of grid.entry) row 0 grid.entry.cols words.old words.new }
 {
-    if row < 1 {
-        return count_part(rows, cols, codes, words, row, 0, cols);
+    if row < 1 || grid.rows <= row + 1 {
+        return count_part(grid, words, row, 0, grid.cols);
     }
-    if rows <= row + 1 {
-        return count_part(rows, cols, codes, words, row, 0, cols);
-    }
-    count_part(rows, cols, codes, words, row, 0, 1);
-    count_inside(rows, cols, codes, words, row);
-    count_part(rows, cols, codes, words, row, cols - 1, cols)
+    count_part(grid, words, row, 0, 1);
+    count_inside(grid, words, row);
+    count_part(grid, words, row, grid.cols - 1, grid.cols)
 }
 
 // Counts every cell.
-pub fn count_all(rows: usize, cols: usize, codes: &[u8], words: &mut [u32])
-    requires { Countable rows cols codes.now words.old }
-    ensures { Counts (grid_of rows cols codes.now) (rows * cols) words.old
-        words.new }
+pub fn count_all(grid: Grid, words: &mut [u32])
+    requires { Countable grid words.old }
+    ensures { Counts (ground_of grid.entry) (grid.entry.rows * grid.entry.cols) words.old words.new }
 {
-    let mut row: usize = 0;
-    while row < rows {
-        count_row(rows, cols, codes, words, row);
-        row += 1;
+    for row in 0..grid.rows {
+        count_row(grid, words, row);
     }
 }

@@ -2,12 +2,12 @@
 -- Assumes nothing.
 use mathlib.Core.Path.{◌≡◌, refl, sym, ap, ◌∙◌, subst}
 use mathlib.Core.Bool.{Bool, true, false, cond, not, ◌&&◌, ◌||◌, or-true, or-false, or_assoc}
-use mathlib.Core.List.{List, [], ◌∷◌, map}
-use Prim.Native.Nat.{ℕ, zero, suc, ◌+◌, ◌*◌, ◌/◌, ◌%◌, ◌≤◌, ◌<◌, ◌^◌}
+use mathlib.Core.List.{List, [], ◌∷◌, ◌++◌, map}
+use Prim.Native.Nat.{ℕ, zero, suc, ◌+◌, ◌-◌, ◌*◌, ◌/◌, ◌%◌, ◌≤◌, ◌<◌, ◌^◌}
 use native.Mathlib.Numerals.{add-one}
 use native.Mathlib.Omega.{arith}
-use lib.ListN.{length, get_or, set, take}
-use lib.Seq.{get_or-set_same, get_or-set_other, take_all}
+use lib.ListN.{length, get_or, set, take, drop, length-append, length-drop, get_or-append}
+use lib.Seq.{get_or-set_same, get_or-set_other, get_or-take, get_or-append_right, get_or-drop, length-take-le, take_all}
 use lib.Arith.{digits_lt}
 use lib.Dec.{eqb, ltb}
 use borrow.Author.Tests.{eqb-true, eqb-false, lt-ltb, le-ltb, ltb-true, ltb-false}
@@ -98,12 +98,22 @@ pub clears_more : {n i : ℕ} {l m : List ℕ} → i < n → n ≤ length l → 
     → Changes cells_held n (λ x. ltb x (i + 1)) l (set m i (cells_held (get_or m i 0)))
 clears_more {n} {i} h r c = changes_more c cells_again h r (below_next i)
 
-pub clears_all : {n i : ℕ} {l m : List ℕ} → n ≤ i → Changes cells_held n (λ x. ltb x i) l m → ClearsNotes n l m
-clears_all {n} {i} {l} h c = record {
-  kept = c.kept;
-  words = λ x k. c.words x
-      ∙ ap (λ (b : Bool). cond b (cells_held (get_or l x 0)) (get_or l x 0)) (lt-ltb x i (omega arith));
+-- the first n words are clear, and what follows them is as it was
+pub clears_all : {n i : ℕ} {l m : List ℕ} → n ≤ length l → length (take n l) ≤ i
+    → Changes cells_held n (λ x. ltb x i) (take n l) m → ClearsNotes n l (m ++ drop n l)
+clears_all {n} {i} {l} {m} h e c = record {
+  kept = record {
+    same_length = omega (arith, length-append m (drop n l), length-drop n l, many);
+    rest = λ x k. get_or-append_right m (drop n l) x 0 (omega (arith, many)) ∙ get_or-drop n l (x - length m) 0
+        ∙ ap (λ (y : ℕ). get_or l y 0) (omega (arith, many));
+  };
+  words = λ x k. get_or-append m (drop n l) 0 x (omega (arith, many)) ∙ c.words x
+      ∙ ap (λ (b : Bool). cond b (cells_held (get_or (take n l) x 0)) (get_or (take n l) x 0))
+      (lt-ltb x i (omega (arith, length-take-le n l h))) ∙ ap cells_held (get_or-take n l x 0 k);
 }
+  where
+    many : length m ≡ n
+    many = c.kept.same_length ∙ length-take-le n l h
 
 -- ---- the first k cells of a list
 
@@ -138,29 +148,38 @@ and_past a false b f = ap (λ (t : Bool). t && b) (or-false a)
 and_past true true b f = refl
 and_past false true b f = f refl
 
-module _ {rows cols n k cell : ℕ} {list : List ℕ} (on : OnList rows cols list n) (h : k < n)
-    (is : cell ≡ get_or list k 0) where
-  pub cell_row : cell / 4096 < rows
-  cell_row = subst (λ (y : ℕ). y / 4096 < rows) (sym is) (on.row_in k h)
+-- number k of the first n
+abbrev pub number_at : ℕ → List ℕ → ℕ → ℕ
+number_at n list k = get_or (take n list) k 0
 
-  pub cell_col : cell % 4096 < cols
-  cell_col = subst (λ (y : ℕ). y % 4096 < cols) (sym is) (on.col_in k h)
+module _ {rows cols n k : ℕ} {list : List ℕ} (on : OnList rows cols list n) (h : k < length (take n list)) where
+  below : k < n
+  below = omega (arith, length-take-le n list on.within)
 
-  pub cell_inside : cell / 4096 * cols + cell % 4096 < rows * cols
-  cell_inside = digits_lt cell_row cell_col
+  is : number_at n list k ≡ get_or list k 0
+  is = get_or-take n list k 0 below
+
+  pub cell_row : number_at n list k / 4096 < rows
+  cell_row = rw is (on.row_in k below)
+
+  pub cell_col : number_at n list k % 4096 < cols
+  cell_col = rw is (on.col_in k below)
 
   abbrev here : ℕ
-  here = cell_of cols cell
+  here = cell_of cols (number_at n list k)
+
+  pub cell_inside : cell_of cols (number_at n list k) < rows * cols
+  cell_inside = digits_lt cell_row cell_col
 
   listed_more : (x : ℕ) → member x (listed cols list (k + 1)) ≡ (member x (listed cols list k) || eqb here x)
   listed_more x = ap (λ (j : ℕ). member x (listed cols list j)) (add-one k)
-      ∙ mapped_more (cell_of cols) list k (omega (arith, on.within)) x
+      ∙ mapped_more (cell_of cols) list k (omega (arith, on.within, below)) x
       ∙ ap (λ (y : ℕ). member x (listed cols list k) || eqb (cell_of cols y) x) (sym is)
 
   module _ {l m : List ℕ} (r : rows * cols ≤ length l) where
     pub leaves_more : LeavesCells rows cols k list l m
-        → LeavesCells rows cols (k + 1) list l (set m (cell / 4096 * cols + cell % 4096)
-        (without_inside (get_or m (cell / 4096 * cols + cell % 4096) 0)))
+        → LeavesCells rows cols (k + 1) list l (set m (cell_of cols (number_at n list k))
+        (without_inside (get_or m (cell_of cols (number_at n list k)) 0)))
     leaves_more c = changes_more c left_again cell_inside r listed_more
 
     -- those beside no outside cell; the test is made on the present words
@@ -183,15 +202,15 @@ module _ {rows cols n k cell : ℕ} {list : List ℕ} (on : OnList rows cols lis
       new_is x = ap (λ (t : Bool). t && not (beside_outside (grid_of rows cols codes) l x)) (listed_more x)
 
       pub notes_more : {t : Bool}
-          → t ≡ beside_outside (grid_of rows cols codes) m (cell / 4096 * cols + cell % 4096) → not t ≡ true
-          → NotesCells rows cols codes (k + 1) list l (set m (cell / 4096 * cols + cell % 4096)
-          (with_enclosed (get_or m (cell / 4096 * cols + cell % 4096) 0)))
+          → t ≡ beside_outside (grid_of rows cols codes) m (cell_of cols (number_at n list k)) → not t ≡ true
+          → NotesCells rows cols codes (k + 1) list l (set m (cell_of cols (number_at n list k))
+          (with_enclosed (get_or m (cell_of cols (number_at n list k)) 0)))
       notes_more e f = changes_more c enclosed_again cell_inside r
           (λ x. new_is x ∙ and_or (member x (listed cols list k)) (eqb here x)
           (not (beside_outside (grid_of rows cols codes) l x)) (at_here e f x))
 
       pub notes_past : {t : Bool}
-          → t ≡ beside_outside (grid_of rows cols codes) m (cell / 4096 * cols + cell % 4096) → not t ≡ false
+          → t ≡ beside_outside (grid_of rows cols codes) m (cell_of cols (number_at n list k)) → not t ≡ false
           → NotesCells rows cols codes (k + 1) list l m
       notes_past e f = changes_same c
           (λ x. new_is x ∙ and_past (member x (listed cols list k)) (eqb here x)

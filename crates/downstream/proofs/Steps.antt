@@ -3,38 +3,16 @@
 use mathlib.Core.Path.{◌≡◌, refl, ap}
 use mathlib.Core.Bool.{Bool, true, false, cond}
 use mathlib.Core.Option.{Option, none, some}
-use Prim.Native.Nat.{ℕ, zero, suc, ◌+◌, ◌*◌, ◌≤◌, ◌<◌}
+use Prim.Native.Nat.{ℕ, zero, suc, ◌+◌, ◌*◌, ◌<◌}
 use native.Mathlib.Nat.{add-mul}
 use native.Mathlib.Omega.{arith}
 use lib.ListN.{get_or}
 use lib.Dec.{ltb}
 use Rattle.ground.specs.Compass.{Dir, E, SE, S, SW, W, NW, N, NE, place_of, Shift, less, as_is, more, shifted, row_shift}
 use Rattle.ground.specs.Compass.{col_shift}
-use Rattle.ground.specs.Tables.{table1, dir_of}
 use Rattle.ground.specs.Grid.{cell_at}
-use Rattle.ground.proofs.Tables.{table_facts}
 use Rattle.moves.specs.Moves.{shift_number}
-use Rattle.moves.proofs.Spots.{shift_le}
 use Rattle.downstream.specs.Offsets.{place_by, offset_of, offsets_of}
-
--- what is none of the first seven of our codes has the last place
-pub last_place : {k : ℕ} → (k ≡ 1 → ⊥) → (k ≡ 2 → ⊥) → (k ≡ 4 → ⊥) → (k ≡ 8 → ⊥) → (k ≡ 16 → ⊥) → (k ≡ 32 → ⊥)
-    → (k ≡ 64 → ⊥) → 7 ≡ place_by (dir_of table1 k)
-last_place {k} e se s sw w nw n = go (dir_of table1 k) refl
-  where
-    is : (d : Dir) → dir_of table1 k ≡ some d → k ≡ table1.code_of d
-    is = (table_facts table1).only k
-
-    go : (o : Option Dir) → dir_of table1 k ≡ o → 7 ≡ place_by (dir_of table1 k)
-    go none q = rw q
-    go (some E) q = absurd (e (is E q))
-    go (some SE) q = absurd (se (is SE q))
-    go (some S) q = absurd (s (is S q))
-    go (some SW) q = absurd (sw (is SW q))
-    go (some W) q = absurd (w (is W q))
-    go (some NW) q = absurd (nw (is NW q))
-    go (some N) q = absurd (n (is N q))
-    go (some NE) q = rw q
 
 pub place_small : (d : Dir) → place_of d < 8
 place_small E = omega arith
@@ -60,15 +38,6 @@ offset_at cols W = refl
 offset_at cols NW = refl
 offset_at cols N = refl
 offset_at cols NE = refl
-
--- no offset is far
-pub offset_small : {cols : ℕ} → cols ≤ 4096 → (d : Dir) → offset_of cols d ≤ 2 * 4096 + 2
-offset_small {cols} h d = omega (arith, shift_le (col_shift d), go (row_shift d))
-  where
-    go : (s : Shift) → shift_number s * cols ≤ 2 * 4096
-    go less = omega arith
-    go as_is = omega arith
-    go more = omega arith
 
 -- a row or a column after a shift
 pub shift_is : (s : Shift) (bound x z : ℕ) → shifted s bound x ≡ some z → z + 1 ≡ x + shift_number s

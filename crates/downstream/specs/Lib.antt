@@ -1,2 +1,3 @@
 pub mod Offsets
 pub mod Flowing
+pub mod Grids

@@ -3,20 +3,23 @@
 
 ghost use Rattle.std.specs.Prelude.{◌≡◌, ◌+◌, ◌≤◌};
 ghost use Rattle.ground.specs.Tables.{table1, dir_of};
-ghost use Rattle.ground.specs.Grid.{grid_of};
+ghost use Rattle.moves.specs.Grids.{ground_of};
 ghost use Rattle.downstream.specs.Offsets.{place_by, offsets_of};
-ghost use Rattle.downstream.specs.Flowing.{Numbered, FlowsOn};
+ghost use Rattle.downstream.specs.Flowing.{FlowsOn};
+ghost use Rattle.downstream.specs.Grids.{Numbered};
 
-use moves::{Lead, Spot, lead_of, spot_at};
+use cells::Cell;
+use moves::{Grid, lead_of, spot_at};
 
-// Where a cell flows: nowhere, or to a cell, by its row, column and number.
+// A cell with its number.
 #[derive(Clone, Copy)]
-pub enum Downstream {
-    End,
-    To { row: usize, col: usize, at: usize },
+pub struct NumberedCell {
+    pub cell: Cell,
+    pub at: usize,
 }
 
 // The place of a code's direction in the order of the neighbours; the last where the code has none.
+#[tactic(auto, unfolding(ground::specs::Tables::dir_of))]
 pub fn place_of(code: u8) -> usize
     ensures { result ≡ place_by (dir_of table1 code) }
 {
@@ -43,34 +46,16 @@ pub fn offsets(cols: usize) -> [usize; 8]
 }
 
 // The cell that a cell flows to. A walk ends where the code leads nowhere, off the grid or to a null cell.
-pub fn downstream_of(
-    rows: usize,
-    cols: usize,
-    codes: &[u8],
-    offsets: &[usize; 8],
-    row: usize,
-    col: usize,
-    at: usize,
-) -> Downstream
-    requires { Numbered rows cols codes.now offsets.now row col at }
-    ensures { FlowsOn (grid_of rows cols codes.now) at result }
+pub fn downstream_of(grid: Grid, offsets: &[usize; 8], here: NumberedCell) -> Option<NumberedCell>
+    requires { Numbered grid offsets.now here }
+    ensures { FlowsOn (ground_of grid.entry) here.at result }
 {
-    match lead_of(codes[at]) {
-        Lead::Nowhere => Downstream::End,
-        Lead::By(m) => match spot_at(rows, cols, row, col, m.row, m.col) {
-            Spot::Off => Downstream::End,
-            Spot::On { row: r, col: c } => {
-                let place = place_of(codes[at]);
-                let to = at + offsets[place] - (cols + 1);
-                if codes[to] == 0 {
-                    return Downstream::End;
-                }
-                Downstream::To {
-                    row: r,
-                    col: c,
-                    at: to,
-                }
-            }
-        },
+    let code = grid.codes[here.at];
+    let m = lead_of(code)?;
+    let cell = spot_at(grid.rows, grid.cols, here.cell, m.row, m.col)?;
+    let to = here.at + offsets[place_of(code)] - (grid.cols + 1);
+    if grid.codes[to] == 0 {
+        return None;
     }
+    Some(NumberedCell { cell, at: to })
 }

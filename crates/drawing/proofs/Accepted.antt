@@ -5,24 +5,28 @@ use mathlib.Core.Bool.{Bool, true, false}
 use mathlib.Core.List.{List, []}
 use Prim.Native.Nat.{ℕ, zero, suc, ◌-◌, ◌^◌, ◌≤◌, ◌<◌}
 use native.Mathlib.Omega.{arith}
-use lib.ListN.{length, get_or, take, drop}
+use lib.ListN.{length, get_or, take, drop, length-take}
 use lib.Seq.{take_at}
 use lib.Dec.{eqb}
-use borrow.Author.Tests.{eqb-true}
+use borrow.Author.Tests.{eqb-true, ne_eqb}
+use Rattle.std.specs.Prelude.{Result, Ok, Err}
+use Rattle.std.specs.Result.{IsErrAnd}
 use Rattle.lists.specs.Slices.{overlaid}
 use Rattle.lists.proofs.Overlaid.{overlaid_front}
 use Rattle.ground.specs.Grid.{cell_count, ground}
 use Rattle.ground.specs.Subwatershed.{is_outlet}
 use Rattle.ground.proofs.Ground.{𝓝, at_most_cells}
 use Rattle.moves.proofs.Spots.{size}
+use Rattle.answers.specs.declared.Refusal.{Refusal}
+use Rattle.answers.specs.Refusals.{refusal_number, number_told}
+use Rattle.answers.proofs.Refusals.{has_number}
 use Rattle.answers.specs.Drawing.{Drawing, drawn_path, draw_number, draw_leaves, drawn_part, Draws}
 use Rattle.flowpath.specs.FlowPath.{outlet_of, IsPath}
 use Rattle.flowpath.specs.Measuring.{Surveyed}
 use Rattle.flowpath.proofs.Following.{positive, grows, start_solid}
-use Rattle.drawing.specs.declared.Drawn.{Drawn}
-use Rattle.drawing.specs.Judging.{Judged}
+use Rattle.drawing.specs.Judging.{count_told, Judged}
 use Rattle.drawing.specs.Cells.{first_cells, Drawable}
-use Rattle.drawing.proofs.Judging.{chosen, inside_path, accepted_by}
+use Rattle.drawing.proofs.Judging.{same_err, chosen, inside_path, accepted_by}
 use Rattle.drawing.proofs.Writing.{path_cells}
 
 -- a flow path has no more cells than the grid: the accumulation grows with each
@@ -96,39 +100,28 @@ module _ (q : Drawing) (lent : List ℕ) where
           omega (arith, d.few, size d.grid.sides)
       go false e = rw e (omega arith)
 
-  -- ONCE IT IS JUDGED, the count says whether there is something to write
-  module _ {d : Drawn} (judged : Judged q lent d) where
-    pub nothing_written : d.count ≡ 0 → Draws q lent d.number d.count lent
-    unfolding draw_leaves
-    nothing_written none =
-        record { answers = judged.answers; counts = judged.counts; leaves = go (eqb (draw_number q lent) 0) refl }
-      where
-        go : (b : Bool) → eqb (draw_number q lent) 0 ≡ b → lent ≡ draw_leaves q lent
-        go true e =
-            let some = (drawn_flow_path (eqb-true (draw_number q lent) 0 e)).some_cell in
-            absurd (omega (arith, judged.counts, none, some))
-        go false e = rw e
+  -- ONCE IT IS JUDGED, a refusal writes nothing,
+  pub nothing_written : {refusal : Refusal} (r : Result ℕ Refusal) → IsErrAnd r (λ e. e ≡ refusal)
+      → Judged q lent (Err refusal) → Draws q lent (number_told r) (count_told r) lent
+  unfolding draw_leaves
+  nothing_written {refusal} r h judged = rw (same_err r h) (record {
+    answers = judged.answers;
+    counts = judged.counts;
+    leaves = rw (sym judged.answers, ne_eqb (refusal_number refusal) 0 (has_number refusal));
+  })
 
-    module _ (some : d.count ≡ 0 → ⊥) where
-      accepts : draw_number q lent ≡ 0
-      unfolding drawn_part
-      accepts = go (eqb (draw_number q lent) 0) refl
-        where
-          go : (b : Bool) → eqb (draw_number q lent) 0 ≡ b → draw_number q lent ≡ 0
-          go true e = eqb-true (draw_number q lent) 0 e
-          go false e = absurd (some (judged.counts ∙ rw e))
+  -- and the cells of an accepted path are written
+  module _ {count : ℕ} (judged : Judged q lent (Ok count)) where
+    pub drawable : Drawable q.catchment.grid q.start count (length lent)
+    drawable = rw judged.counts (part_drawable (sym judged.answers))
 
-      pub drawable : Drawable q.catchment.grid q.start d.count (length lent)
-      drawable = rw judged.counts (part_drawable accepts)
-
-      pub cells_written : {new : List ℕ}
-          → new ≡ overlaid (first_cells q.catchment.grid q.start d.count) lent
-          → Draws q lent d.number d.count new
-      cells_written e = record {
-        answers = judged.answers;
-        counts = judged.counts;
-        leaves = e ∙ rw judged.counts (part_leaves accepts);
-      }
+    pub cells_written : {new : List ℕ} → new ≡ overlaid (first_cells q.catchment.grid q.start count) lent
+        → Draws q lent 0 count new
+    cells_written e = record {
+      answers = judged.answers;
+      counts = judged.counts;
+      leaves = e ∙ rw judged.counts (part_leaves (sym judged.answers));
+    }
 
   -- THE PART that is handed back
   module _ {number count : ℕ} {new : List ℕ} (draws : Draws q lent number count new) where
@@ -147,5 +140,5 @@ module _ (q : Drawing) (lent : List ℕ) where
             let none : drawn_part q lent ≡ [] = rw e in
             ap (λ (n : ℕ). take n new) (draws.counts ∙ ap length none) ∙ sym none
 
-    pub part_long : count ≡ length (take count new)
-    part_long = draws.counts ∙ sym (ap length part_taken)
+    pub part_fits : count ≤ length new
+    part_fits = omega (arith, draws.counts, ap length part_taken, length-take count new)

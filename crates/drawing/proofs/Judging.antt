@@ -1,26 +1,33 @@
 -- The number of a drawing by its checks.
 -- Assumes nothing.
-use mathlib.Core.Path.{◌≡◌, refl, sym, ◌∙◌}
+use mathlib.Core.Path.{◌≡◌, refl, sym, ap, ◌∙◌}
 use mathlib.Core.Bool.{Bool, true, false, cond}
 use mathlib.Core.Logic.{inl}
 use mathlib.Core.List.{List, [], ◌∷◌, ◌++◌}
 use Prim.Native.Nat.{ℕ, ◌≤◌, ◌<◌}
 use native.Mathlib.Omega.{arith}
 use lib.ListN.{length}
+use Rattle.std.specs.Prelude.{Some, None, Result, Ok, Err}
+use Rattle.std.specs.Result.{IsErrAnd}
+use Rattle.std.proofs.lemmas.Result.{err_from_is_err_and}
 use lib.Dec.{eqb, leb}
 use borrow.Author.Tests.{eqb-true, eqb-false, ne_eqb, leb-true, le-leb, lt-leb}
 use Rattle.ground.specs.Compass.{squares}
 use Rattle.ground.specs.Grid.{cell_count, next}
 use Rattle.ground.specs.Subwatershed.{is_outlet, in_subwatershed}
+use Rattle.answers.specs.declared.Refusal.{Refusal}
+use Rattle.answers.specs.declared.Refusal.TheVariants.{Start, Room}
+use Rattle.answers.specs.Refusals.{refusal_number}
 use Rattle.answers.specs.Checks.{Check, first_failed, check18, check22, check23}
 use Rattle.answers.specs.Entries.{place_checks}
 use Rattle.answers.specs.Drawing.{Drawing, drawn_path, draw_number, drawn_part}
 use Rattle.answers.proofs.FirstFailed.{handed_on}
+use Rattle.answers.proofs.Refusals.{has_number}
 use Rattle.checks.proofs.Passed.{Sized, Listed, sized, listed, beyond_place, in_list}
 use Rattle.flowpath.specs.FlowPath.{outlet_of, IsPath}
 use Rattle.flowpath.specs.Measuring.{Surveyed, path_length}
 use Rattle.flowpath.proofs.Walked.{flow_path}
-use Rattle.drawing.specs.Judging.{answer_of, Judged}
+use Rattle.drawing.specs.Judging.{Judged}
 
 -- checks that give 0 with others after them give it without
 first_passes : (cs ds : List Check) → first_failed (cs ++ ds) ≡ 0 → first_failed cs ≡ 0
@@ -29,6 +36,10 @@ first_passes cs ds z = go (eqb (first_failed cs) 0) refl
     go : (b : Bool) → eqb (first_failed cs) 0 ≡ b → first_failed cs ≡ 0
     go true e = eqb-true (first_failed cs) 0 e
     go false e = handed_on cs ds refl (eqb-false (first_failed cs) 0 e) ∙ z
+
+-- what the exit of a `?` hands on
+pub same_err : {A : Type 0} {refusal : Refusal} (r : Result A Refusal) → IsErrAnd r (λ e. e ≡ refusal) → r ≡ Err refusal
+same_err r h = let p = err_from_is_err_and r h in p.1 ∙ ap (λ (e : Refusal). Err e) p.2
 
 -- what 10 to 18 have found out
 pub record Chosen (q : Drawing) : Type 0 where
@@ -77,14 +88,14 @@ module _ (q : Drawing) where
 
 -- where there is something to draw, the start lies in the subwatershed and the whole path is measured
 inside : (q : Drawing) {count : ℕ}
-    → count ≡ path_length q.catchment.grid q.catchment.outlets (outlet_of q) q.start → (count ≡ 0 → ⊥)
+    → Some count ≡ path_length q.catchment.grid q.catchment.outlets (outlet_of q) q.start
     → (is_inside q ≡ true) × (count ≡ length (drawn_path q))
 unfolding path_length
-inside q {count} is some = go (is_inside q) refl
+inside q {count} is = go (is_inside q) refl
   where
     go : (b : Bool) → is_inside q ≡ b → (is_inside q ≡ true) × (count ≡ length (drawn_path q))
-    go true e = (e, is ∙ rw e)
-    go false e = absurd (some (is ∙ rw e))
+    go true e = let same : Some count ≡ Some (length (drawn_path q)) = is ∙ rw e in (e, (cc))
+    go false e = let none : Some count ≡ None = is ∙ rw e in cc
 
 module _ (q : Drawing) (lent : List ℕ) where
   -- 22 and 23
@@ -95,13 +106,16 @@ module _ (q : Drawing) (lent : List ℕ) where
   unfolding draw_number
   number_is = refl
 
-  refused : (n : ℕ) → (n ≡ 0 → ⊥) → draw_number q lent ≡ n → Judged q lent (answer_of n 0)
+  refused : (refusal : Refusal) → draw_number q lent ≡ refusal_number refusal → Judged q lent (Err refusal)
   unfolding drawn_part
-  refused n z e = record { answers = sym e; counts = rw (e, ne_eqb n 0 z) }
+  refused refusal e =
+      record { answers = sym e; counts = rw (e, ne_eqb (refusal_number refusal) 0 (has_number refusal)) }
 
   -- REFUSED BY 10 TO 18
-  pub refused_early : {n : ℕ} → n ≡ first_failed (early q) → (n ≡ 0 → ⊥) → Judged q lent (answer_of n 0)
-  refused_early {n} is z = refused n z (number_is ∙ sym (handed_on (early q) last is z))
+  pub refused_early : (refusal : Refusal) (r : Result ℕ Refusal) → IsErrAnd r (λ e. e ≡ refusal)
+      → refusal_number refusal ≡ first_failed (early q) → Judged q lent r
+  refused_early refusal r h is = rw (same_err r h)
+      (refused refusal (number_is ∙ sym (handed_on (early q) last is (has_number refusal))))
 
   module _ (passes : first_failed (early q) ≡ 0) where
     -- then 22 and 23
@@ -110,35 +124,33 @@ module _ (q : Drawing) (lent : List ℕ) where
     by_last = number_is
         ∙ beyond_place q.catchment (length q.catchment.accumulation ∷ []) q.place last passes
 
+    -- REFUSED BY 22: there is nothing to draw
+    pub refused_22 : None ≡ path_length q.catchment.grid q.catchment.outlets (outlet_of q) q.start
+        → Judged q lent (Err Start)
+    unfolding path_length
+    refused_22 is = go (is_inside q) refl
+      where
+        go : (b : Bool) → is_inside q ≡ b → Judged q lent (Err Start)
+        go true e = let some : None ≡ Some (length (drawn_path q)) = is ∙ rw e in cc
+        go false e = refused Start (by_last ∙ rw e)
+
     module _ {count : ℕ}
-        (is : count ≡ path_length q.catchment.grid q.catchment.outlets (outlet_of q) q.start) where
-      -- REFUSED BY 22: there is nothing to draw
-      pub refused_22 : count ≡ 0 → Judged q lent (answer_of 22 0)
-      unfolding path_length
-      refused_22 z = go (is_inside q) refl
-        where
-          go : (b : Bool) → is_inside q ≡ b → Judged q lent (answer_of 22 0)
-          go true e =
-              let long : count ≡ length (drawn_path q) = is ∙ rw e in
-              absurd (omega (arith, z, (inside_path q e).some_cell, long))
-          go false e = refused 22 (λ r. absurd (omega (arith, r))) (by_last ∙ rw e)
+        (is : Some count ≡ path_length q.catchment.grid q.catchment.outlets (outlet_of q) q.start) where
+      -- BY 23
+      pub refused_23 : length lent < count → Judged q lent (Err Room)
+      refused_23 h =
+          let i = inside q is in
+          refused Room
+          (by_last ∙ rw (i.0, lt-leb (length (drawn_path q)) (length lent) (omega (arith, h, i.1))))
 
-      module _ (some : count ≡ 0 → ⊥) where
-        -- BY 23
-        pub refused_23 : length lent < count → Judged q lent (answer_of 23 0)
-        refused_23 h =
-            let i = inside q is some in
-            refused 23 (λ r. absurd (omega (arith, r)))
-            (by_last ∙ rw (i.0, lt-leb (length (drawn_path q)) (length lent) (omega (arith, h, i.1))))
-
-        -- OR ACCEPTED
-        pub accepted : count ≤ length lent → Judged q lent (answer_of 0 count)
-        unfolding drawn_part
-        accepted h =
-            let i = inside q is some in
-            let z : draw_number q lent ≡ 0
-            = by_last ∙ rw (i.0, le-leb (length (drawn_path q)) (length lent) (omega (arith, h, i.1))) in
-            record { answers = sym z; counts = i.1 ∙ rw z }
+      -- OR ACCEPTED
+      pub accepted : count ≤ length lent → Judged q lent (Ok count)
+      unfolding drawn_part
+      accepted h =
+          let i = inside q is in
+          let z : draw_number q lent ≡ 0
+          = by_last ∙ rw (i.0, le-leb (length (drawn_path q)) (length lent) (omega (arith, h, i.1))) in
+          record { answers = sym z; counts = i.1 ∙ rw z }
 
   -- WHAT 0 SAYS: every check passes
   pub record Accepted : Type 0 where

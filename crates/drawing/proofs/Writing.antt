@@ -2,12 +2,13 @@
 -- Assumes nothing.
 use mathlib.Core.Path.{◌≡◌, refl, sym, ap, ◌∙◌}
 use mathlib.Core.Bool.{Bool}
-use mathlib.Core.List.{List, [], ◌∷◌, ◌++◌, map-append}
-use Prim.Native.Nat.{ℕ, zero, suc, ◌-◌, ◌≤◌, ◌<◌, ◌^◌}
+use mathlib.Core.List.{List, [], ◌∷◌, ◌++◌, map-append, append-nil}
+use Prim.Native.Nat.{ℕ, zero, suc, ◌+◌, ◌≤◌, ◌<◌, ◌^◌}
+use native.Mathlib.Numerals.{add-one}
 use native.Mathlib.Omega.{arith}
-use lib.ListN.{length, get_or, set, drop, length-append, length-drop}
+use lib.ListN.{length, get_or, set, take, drop, drop_of_length-le}
 use lib.Arith.{digits_lt}
-use lib.Seq.{ext_get_or, drop-cons, set_at, append_snoc}
+use lib.Seq.{ext_get_or, drop-cons, set_at, append_snoc, length-take-le}
 use Rattle.lists.specs.Lists.{up_to}
 use Rattle.lists.specs.Slices.{overlaid}
 use Rattle.lists.proofs.Overlaid.{overlaid_front}
@@ -50,10 +51,6 @@ module _ (g : Grid) (start : ℕ) where
     abbrev pub written : ℕ → List ℕ
     written n = first_cells g start n ++ drop n old
 
-    pub written_length : (n : ℕ) → n ≤ length old → length (written n) ≡ length old
-    written_length n h =
-        omega (arith, length-append (first_cells g start n) (drop n old), cells_length n, length-drop n old)
-
     written_none : old ≡ written 0
     unfolding first_cells
     written_none = refl
@@ -69,62 +66,63 @@ module _ (g : Grid) (start : ℕ) where
     written_all n h = ap (λ (m : ℕ). first_cells g start n ++ drop m old) (sym (cells_length n))
         ∙ sym (overlaid_front (first_cells g start n) old (omega (arith, cells_length n)))
 
--- while `left` cells are still to be written
-pub record Writing (g : Grid) (start count : ℕ) (old new : List ℕ) (w : Walk) (left : ℕ) : Type 0 where
-  pub at_most : left ≤ count
-  pub is_cell : cell_of g.cols w ≡ cell_after g start (count - left)
-  pub row_in : w.row < g.rows
-  pub col_in : w.col < g.cols
-  pub few : steps w ≤ count - left
-  pub is_written : new ≡ written g start old (count - left)
+-- the walk once k cells are written
+pub record Writing (g : Grid) (start : ℕ) (old new : List ℕ) (w : Walk) (k : ℕ) : Type 0 where
+  pub is_cell : cell_of g.cols w ≡ cell_after g start k
+  pub row_in : w.cell.row < g.rows
+  pub col_in : w.cell.col < g.cols
+  pub few : steps w ≤ k
+  pub is_written : new ≡ written g start old k
 
-module _ {g : Grid} {start count : ℕ} {old : List ℕ} (d : Drawable g start count (length old)) where
-  pub writing_none : {w : Walk} → BeginsAt g.cols start w → Writing g start count old old w count
+-- into as many of the lent places as there are cells to write
+module _ {g : Grid} {start count : ℕ} (lent : List ℕ) (d : Drawable g start count (length lent)) where
+  abbrev places : List ℕ
+  places = take count lent
+
+  many : length places ≡ count
+  many = length-take-le count lent d.has_room
+
+  pub writing_none : {w : Walk} → BeginsAt g.cols start w → Writing g start places places w 0
   unfolding cell_after
   writing_none {w} b =
-      let e : 0 ≡ count - count = omega arith in
       let z : steps w ≡ 0 = rw b.no_steps in
       record {
-        at_most = omega arith;
-        is_cell = b.cell.is_number ∙ ap (cell_after g start) e;
+        is_cell = b.cell.is_number;
         row_in = row_inside b.cell d.start_in;
         col_in = b.cell.col_in;
         few = omega (arith, z);
-        is_written = written_none g start old ∙ ap (written g start old) e;
+        is_written = written_none g start places;
       }
 
-  module _ {new : List ℕ} {w : Walk} {left : ℕ} (i : Writing g start count old new w left) where
-    pub long : length new ≡ length old
-    long = ap length i.is_written ∙ written_length g start old (count - left) (omega (arith, d.has_room))
-
+  module _ {new : List ℕ} {w : Walk} {k : ℕ} (i : Writing g start places new w k) where
     pub inside : cell_of g.cols w < 2 ^ 24
     inside = omega (arith, size d.grid.sides, digits_lt i.row_in i.col_in)
 
-    pub writing_on_grid : 0 < left → OnGrid g.rows g.cols g.codes w
-    writing_on_grid h = record {
-      on = record { grid = d.grid; row_in = i.row_in; col_in = i.col_in };
-      straight_small = omega (arith, size d.grid.sides, i.few, i.at_most, h, d.few);
-      diagonal_small = omega (arith, size d.grid.sides, i.few, i.at_most, h, d.few);
-    }
+    module _ (h : k < length places) where
+      pub writing_on_grid : OnGrid g.rows g.cols g.codes w
+      writing_on_grid = record {
+        on = record { grid = d.grid; row_in = i.row_in; col_in = i.col_in };
+        straight_small = omega (arith, size d.grid.sides, i.few, h, many, d.few);
+        diagonal_small = omega (arith, size d.grid.sides, i.few, h, many, d.few);
+      }
 
-    pub writing_more : 0 < left → {cell : ℕ} → cell ≡ cell_of g.cols w
-        → {r : Walk} → WalkedOn g w r
-        → Writing g start count old (set new (count - left) cell) r (left - 1)
-    unfolding cell_after
-    writing_more h {cell} is {r} on =
-        let e : suc (count - left) ≡ count - (left - 1) = omega (arith, h, i.at_most) in
-        record {
-          at_most = omega (arith, i.at_most);
-          is_cell = on_cell g on ∙ ap (cell_on g) i.is_cell ∙ ap (cell_after g start) e;
-          row_in = on.row_in;
-          col_in = on.col_in;
-          few = omega (arith, at_most_one g on, i.few, h, i.at_most);
-          is_written = rw (is, i.is_cell, i.is_written)
-              (written_more g start old (count - left) (omega (arith, h, i.at_most, d.has_room))
-              ∙ ap (written g start old) e);
-        }
+      pub writing_more : {cell : ℕ} → cell ≡ cell_of g.cols w → {r : Walk} → WalkedOn g w r
+          → Writing g start places (set new k cell) r (k + 1)
+      unfolding cell_after
+      writing_more {cell} is {r} on = rw add-one (record {
+        is_cell = on_cell g on ∙ ap (cell_on g) i.is_cell;
+        row_in = on.row_in;
+        col_in = on.col_in;
+        few = omega (arith, at_most_one g on, i.few);
+        is_written = rw (is, i.is_cell, i.is_written) (written_more g start places k h);
+      })
 
-    pub writing_all : left ≤ 0 → new ≡ overlaid (first_cells g start count) old
-    writing_all h =
-        let e : count - left ≡ count = omega (arith, h) in
-        i.is_written ∙ ap (written g start old) e ∙ written_all g start old count d.has_room
+    -- all of them, before the places that stay as they were
+    pub writing_all : k ≤ length places → length places ≤ k
+        → new ++ drop count lent ≡ overlaid (first_cells g start count) lent
+    writing_all most least =
+        let e : k ≡ count = omega (arith, most, least, many) in
+        let all : new ≡ first_cells g start count = i.is_written ∙ ap (written g start places) e
+        ∙ ap (λ (l : List ℕ). first_cells g start count ++ l) (drop_of_length-le places (omega (arith, many)))
+        ∙ append-nil (first_cells g start count) in
+        ap (λ (l : List ℕ). l ++ drop count lent) all ∙ written_all g start lent count d.has_room

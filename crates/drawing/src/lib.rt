@@ -3,55 +3,41 @@
 
 ghost use Rattle.std.specs.Prelude.{◌≡◌, ◌<◌, ◌^◌, length};
 ghost use Rattle.lists.specs.Slices.{overlaid};
-ghost use Rattle.ground.specs.Grid.{grid_of};
+ghost use Rattle.moves.specs.Grids.{ground_of};
 ghost use Rattle.answers.specs.Drawing.{drawing_of, draw_number, drawn_part, Draws};
+ghost use Rattle.answers.specs.Refusals.{number_told};
 ghost use Rattle.flowpath.specs.Cells.{cell_of};
-ghost use Rattle.drawing.specs.Judging.{answer_of, Judged};
+ghost use Rattle.drawing.specs.Judging.{count_told, Judged};
 ghost use Rattle.drawing.specs.Cells.{first_cells, Drawable};
 
-use checks::place_number;
+use answers::Refusal;
+use checks::check_place;
 use flowpath::{path_length, walk_from};
-use moves::Walk;
-
-// What drawing answers: the number, and how many of the lent places hold the path. The count is 0 on refusal.
-#[derive(Clone, Copy)]
-pub struct Drawn {
-    pub number: u32,
-    pub count: usize,
-}
+use moves::{Grid, Walk};
 
 // A cell number of the grid, as it is lent.
 fn cell_number(cols: usize, walk: Walk) -> u32
     requires { cell_of cols walk < 2 ^ 24 }
     ensures { result ≡ cell_of cols walk }
 {
-    (walk.row * cols + walk.col) as u32
+    (walk.cell.row * cols + walk.cell.col) as u32
 }
 
 // Writes the first cells of the walk from a cell.
-fn write_cells(rows: usize, cols: usize, codes: &[u8], start: u32, count: usize, path: &mut [u32])
-    requires { Drawable (grid_of rows cols codes.now) start count (length path.old) }
+fn write_cells(grid: Grid, start: u32, count: usize, path: &mut [u32])
+    requires { Drawable (ground_of grid) start count (length path.old) }
     ensures { path.new
-        ≡ overlaid (first_cells (grid_of rows cols codes.now) start count) path.old }
+        ≡ overlaid (first_cells (ground_of grid.entry) start count) path.old }
 {
-    let mut walk = walk_from(cols, start);
-    let mut left = count;
-    while 0 < left {
-        let at = count - left;
-        path[at] = cell_number(cols, walk);
-        walk = walk.step(rows, cols, codes);
-        left -= 1;
+    let mut walk = walk_from(grid.cols, start);
+    for place in &mut path[..count] {
+        *place = cell_number(grid.cols, walk);
+        walk = walk.step(grid);
     }
 }
 
-// The answer of a number and a count.
-fn answer(number: u32, count: usize) -> Drawn
-    ensures { result ≡ answer_of number count }
-{
-    Drawn { number, count }
-}
-
-// Judges a drawing: 10, 11, 12, 14 to 18, 22, 23. The walk is measured and nothing is written.
+// Judges a drawing: 10, 11, 12, 14 to 18, 22, 23. The walk is measured and nothing is written: how many cells there are
+// to write is handed back.
 fn judge(
     rows: usize,
     cols: usize,
@@ -61,30 +47,24 @@ fn judge(
     place: usize,
     start: u32,
     path: &[u32],
-) -> Drawn
+) -> Result<usize, Refusal>
     ensures { Judged
         (drawing_of rows cols codes.now accumulation.now outlets.now place start)
         path.now result }
 {
     let lent = [accumulation.len()];
-    let number = place_number(rows, cols, codes, accumulation, outlets, place, &lent);
-    if number != 0 {
-        return answer(number, 0);
+    check_place(rows, cols, codes, accumulation, outlets, place, &lent)?;
+    let grid = Grid { rows, cols, codes };
+    let cells = path_length(grid, accumulation, outlets, outlets[place], start);
+    let count = cells.ok_or(Refusal::Start)?;
+    if path.len() < count {
+        return Err(Refusal::Room);
     }
-    let outlet = outlets[place];
-    let count = path_length(rows, cols, codes, accumulation, outlets, outlet, start);
-    if count == 0 {
-        return answer(22, 0);
-    }
-    let room = path.len();
-    if room < count {
-        return answer(23, 0);
-    }
-    answer(0, count)
+    Ok(count)
 }
 
 // Draws the path from a start to an outlet of the list into the first of the lent places, the start first and the
-// outlet last: 10, 11, 12, 14 to 18, 22, 23.
+// outlet last, and hands back how many of them hold it: 10, 11, 12, 14 to 18, 22, 23.
 pub fn draw_into(
     rows: usize,
     cols: usize,
@@ -94,17 +74,15 @@ pub fn draw_into(
     place: usize,
     start: u32,
     path: &mut [u32],
-) -> Drawn
+) -> Result<usize, Refusal>
     ensures { Draws
         (drawing_of rows cols codes.now accumulation.now outlets.now place start)
-        path.old result.number result.count path.new }
+        path.old (number_told result) (count_told result) path.new }
 {
-    let drawn = judge(rows, cols, codes, accumulation, outlets, place, start, path);
-    if drawn.count == 0 {
-        return drawn;
-    }
-    write_cells(rows, cols, codes, start, drawn.count, path);
-    drawn
+    let count = judge(rows, cols, codes, accumulation, outlets, place, start, path)?;
+    let grid = Grid { rows, cols, codes };
+    write_cells(grid, start, count, path);
+    Ok(count)
 }
 
 // The same, handing back the part of the lent places that holds the path; it is empty on refusal.
@@ -125,12 +103,12 @@ pub fn draw<'a>(
         × (result.ref_ptr ≡ path.entry.ref_ptr) }
 {
     let drawn = draw_into(rows, cols, codes, accumulation, outlets, place, start, path);
-    let count = drawn.count;
+    let count = drawn.unwrap_or(0);
     &mut path[..count]
 }
 
-// The number of a drawing: what `draw` was refused with, or 0.
-pub fn drawing_number(
+// What `draw` is refused with, if it is. Nothing is written.
+pub fn check_drawing(
     rows: usize,
     cols: usize,
     codes: &[u8],
@@ -139,12 +117,12 @@ pub fn drawing_number(
     place: usize,
     start: u32,
     path: &[u32],
-) -> u32
-    ensures { result
+) -> Result<(), Refusal>
+    ensures { number_told result
         ≡ draw_number
         (drawing_of rows cols codes.now accumulation.now outlets.now place start)
         path.now }
 {
-    let drawn = judge(rows, cols, codes, accumulation, outlets, place, start, path);
-    drawn.number
+    judge(rows, cols, codes, accumulation, outlets, place, start, path)?;
+    Ok(())
 }

@@ -3,65 +3,37 @@
 #![tactic(auto)]
 
 use accumulation::accumulate;
-use answers::{Answer, Traced};
-use drawing::{draw, drawing_number};
+use answers::{Answer, Traced, number_told};
+use drawing::{check_drawing, draw};
 use std::io;
 use tracing::{trace_by_recursion, trace_by_stack};
 
-fn text(rt: &impl Print, bytes: &[u8]) -> io::Result<()> {
-    rt.write_all(bytes)
-}
-
-fn number(rt: &impl Print, x: u32) -> io::Result<()> {
-    rt.print(x)
-}
-
 // Every number of a list, each after a space.
 fn numbers(rt: &impl Print, list: &[u32]) -> io::Result<()> {
-    let mut i: usize = 0;
-    while i < list.len() {
-        text(rt, b" ")?;
-        number(rt, list[i])?;
-        i += 1;
+    for x in list {
+        print!(rt; " {x}")?;
     }
     Ok(())
 }
 
 fn show(rt: &impl Print, t: Traced) -> io::Result<()> {
-    let answer = t.answer;
-    match answer {
+    match t.answer {
         Answer::Found {
             straight,
             diagonal,
             paths,
-        } => {
-            text(rt, b"found ")?;
-            number(rt, straight)?;
-            text(rt, b" ")?;
-            number(rt, diagonal)?;
-            text(rt, b" paths ")?;
-            number(rt, paths)?;
-        }
-        Answer::NoPlace { paths } => {
-            text(rt, b"no place ")?;
-            number(rt, paths)?;
-        }
-        Answer::Refused { number: n } => {
-            text(rt, b"refused ")?;
-            number(rt, n)?;
-        }
+        } => print!(rt; "found {straight} {diagonal} paths {paths}")?,
+        Answer::NoPlace { paths } => print!(rt; "no place {paths}")?,
+        Answer::Refused { number } => print!(rt; "refused {number}")?,
     }
-    text(rt, b" visited ")?;
-    number(rt, t.visited)?;
-    text(rt, b" dropped ")?;
-    number(rt, t.dropped)
+    print!(rt; " visited {} dropped {}", t.visited, t.dropped)
 }
 
 // Every place of a lent list, those beyond the starts too.
-fn list(rt: &impl Print, starts: [u32; 3]) -> io::Result<()> {
-    text(rt, b" list")?;
-    numbers(rt, &starts)?;
-    text(rt, b"\n")
+fn list(rt: &impl Print, starts: &[u32]) -> io::Result<()> {
+    print!(rt; " list")?;
+    numbers(rt, starts)?;
+    println!(rt;)
 }
 
 // The last cell of the first row is the outlet of all. Every cell is on the divide.
@@ -77,7 +49,7 @@ fn trace_row(
     let mut subaccumulation = [0u32; 8192];
     let mut starts = [9u32; 3];
     let mut work = [0u32; 12291];
-    accumulate(rows, 4096, codes, &mut accumulation);
+    let _ = accumulate(rows, 4096, codes, &mut accumulation);
     show(
         rt,
         trace_by_recursion(
@@ -93,7 +65,7 @@ fn trace_row(
             &mut starts,
         ),
     )?;
-    list(rt, starts)?;
+    list(rt, &starts)?;
     show(
         rt,
         trace_by_stack(
@@ -110,18 +82,14 @@ fn trace_row(
             &mut work,
         ),
     )?;
-    list(rt, starts)
+    list(rt, &starts)
 }
 
 // By an edition, an outlet of 4,096 cells is traced by recursion, and one of 4,097 is refused with 19; from pending
 // cells both are traced.
 fn longest_rows(rt: &impl Print, edition: u32) -> io::Result<()> {
     let mut codes = [1u8; 8192];
-    let mut i: usize = 4096;
-    while i < 8192 {
-        codes[i] = 0;
-        i += 1;
-    }
+    codes[4096..].fill(0);
     codes[4096] = 64;
     trace_row(rt, edition, 1, &codes, false)?;
     trace_row(rt, edition, 1, &codes, true)?;
@@ -141,17 +109,13 @@ fn draw_once(
     start: u32,
     path: &mut [u32],
 ) -> io::Result<()> {
-    text(rt, b"drawing ")?;
-    number(
-        rt,
-        drawing_number(rows, 5, codes, accumulation, outlets, place, start, path),
-    )?;
-    text(rt, b" part")?;
+    let checked = check_drawing(rows, 5, codes, accumulation, outlets, place, start, path);
+    print!(rt; "drawing {} part", number_told(checked))?;
     let part = draw(rows, 5, codes, accumulation, outlets, place, start, path);
-    numbers(rt, &part[..])?;
-    text(rt, b" places")?;
+    numbers(rt, part)?;
+    print!(rt; " places")?;
     numbers(rt, path)?;
-    text(rt, b"\n")
+    println!(rt;)
 }
 
 // 10, 11, 12, 14: no row, a row more than is lent, a strange code, a wrong accumulation.
@@ -196,7 +160,7 @@ fn drawings(rt: &impl Print) -> io::Result<()> {
     let mut accumulation = [0u32; 5];
     let mut just = [9u32; 3];
     let mut path = [9u32; 5];
-    accumulate(1, 5, &codes, &mut accumulation);
+    let _ = accumulate(1, 5, &codes, &mut accumulation);
     refused_grids(rt, &codes, &accumulation)?;
     refused_outlets(rt, &codes, &accumulation)?;
     refused_paths(rt, &codes, &accumulation)?;

@@ -10,8 +10,9 @@ use native.Mathlib.Numerals.{add-one}
 use native.Mathlib.Omega.{arith}
 use lib.ListN.{length, get_or, set}
 use lib.Seq.{get_or-set_same, get_or-set_other}
-use Rattle.downstream.specs.declared.Downstream.{Downstream}
-use Rattle.downstream.specs.declared.Downstream.TheVariants.{End, To}
+use Rattle.std.specs.Prelude.{Option, Some, None}
+use Rattle.std.proofs.lemmas.Option.{none-some}
+use Rattle.downstream.specs.declared.NumberedCell.{NumberedCell}
 use Rattle.lists.specs.Lists.{sum_of}
 use Rattle.ground.specs.Grid.{Grid, grid_of, cell_count, ground, next}
 use Rattle.ground.proofs.Cells.{ground_within}
@@ -39,10 +40,9 @@ use Rattle.filling.proofs.Flags.{
   plain,
   cut_end,
 }
-use Rattle.downstream.proofs.Flowing.{end_to}
 use Rattle.filling.proofs.Outlets.{flows_ground}
 use Rattle.filling.proofs.Done.{tally_le}
-use Rattle.lists.proofs.Kept.{kept_all, kept_then, sum_set}
+use Rattle.lists.proofs.Kept.{sum_set}
 
 -- the bounds of a word
 pub word_bounds : (g : Grid) (outlets l : List ℕ) {i done : ℕ} {busy : ℕ → Bool}
@@ -195,59 +195,39 @@ module _ {rows cols : ℕ} {codes outlets l : List ℕ} (f : Fillable rows cols 
 -- ---- the way down
 
 module _ {g : Grid} {outlets : List ℕ} {i done : ℕ} where
-  ways_end : {l m : List ℕ} → Kept (cell_count g) l m → Looked g outlets m i done → Going g outlets i done l m End
+  ways_end : {l m : List ℕ} → Kept (cell_count g) l m → Looked g outlets m i done → Going g outlets i done l m None
   ways_end k p = record {
-    is_down = λ r c a e. absurd (end_to e);
-    is_at = λ r c a e. absurd (end_to e);
-    row_in = λ r c a e. absurd (end_to e);
-    col_in = λ r c a e. absurd (end_to e);
+    is_down = λ x e. absurd (none-some x e);
+    is_at = λ x e. absurd (none-some x e);
+    row_in = λ x e. absurd (none-some x e);
+    col_in = λ x e. absurd (none-some x e);
     done_is = λ e. p;
     kept = k;
   }
 
-  goes_on : {l m : List ℕ} {row col at : ℕ} → Kept (cell_count g) l m → row < g.rows → col < g.cols
-      → at ≡ row * g.cols + col → Down g outlets m i at done → Going g outlets i done l m (To row col at)
-  goes_on {m = m} {row = row} {col = col} {at = at} k r c s d = record {
-    is_down = λ x y a e. let q : at ≡ a = cc in subst (λ (x : ℕ). Down g outlets m i x done) q d;
-    is_at = λ x y a e. let q : at ≡ a = cc in let t : row * g.cols + col ≡ x * g.cols + y = cc in omega arith;
-    row_in = λ x y a e. let q : row ≡ x = cc in omega arith;
-    col_in = λ x y a e. let q : col ≡ y = cc in omega arith;
-    done_is = λ e. absurd (end_to (sym e));
-    kept = k;
-  }
+  module _ {cell : NumberedCell} (row_in : cell.cell.row < g.rows) (col_in : cell.cell.col < g.cols)
+      (is_at : cell.at ≡ cell.cell.row * g.cols + cell.cell.col) where
+    goes_on : {l m : List ℕ} → Kept (cell_count g) l m → Down g outlets m i cell.at done
+        → Going g outlets i done l m (Some cell)
+    goes_on {m = m} k d = record {
+      is_down = λ x e. let q : cell ≡ x = cc in subst (λ (y : NumberedCell). Down g outlets m i y.at done) q d;
+      is_at = λ x e. let q : cell ≡ x = cc in
+          subst (λ (y : NumberedCell). y.at ≡ y.cell.row * g.cols + y.cell.col) q is_at;
+      row_in = λ x e. let q : cell ≡ x = cc in subst (λ (y : NumberedCell). y.cell.row < g.rows) q row_in;
+      col_in = λ x e. let q : cell ≡ x = cc in subst (λ (y : NumberedCell). y.cell.col < g.cols) q col_in;
+      done_is = λ e. absurd (none-some cell (sym e));
+      kept = k;
+    }
 
-  pub passed_end : {l m : List ℕ} → Kept (cell_count g) l m → Looked g outlets m i done → Passed g outlets i done l m End
-  passed_end k p = record { going = ways_end k p; less = λ r c a e. absurd (end_to e) }
+    pub passed_on : {l m : List ℕ} → Kept (cell_count g) l m → Down g outlets m i cell.at done → sum_of m < sum_of l
+        → Passed g outlets i done l m (Some cell)
+    passed_on k d h = record { going = goes_on k d; less = λ x e. h }
 
-  pub passed_on : {l m : List ℕ} {row col at : ℕ} → Kept (cell_count g) l m → row < g.rows → col < g.cols
-      → at ≡ row * g.cols + col → Down g outlets m i at done → sum_of m < sum_of l
-      → Passed g outlets i done l m (To row col at)
-  passed_on k r c s d h = record { going = goes_on k r c s d; less = λ x y a e. h }
-
-  pub going_begin : {l : List ℕ} {row col at : ℕ} → row < g.rows → col < g.cols → at ≡ row * g.cols + col
-      → Down g outlets l i at done → Going g outlets i done l l (To row col at)
-  going_begin r c s d = goes_on kept_all r c s d
-
-  pub going_on : {before : ℕ} {l m n : List ℕ} {s t : Downstream} → Going g outlets i before l m s
-      → Passed g outlets i done m n t → Going g outlets i done l n t
-  going_on a p = record {
-    is_down = p.going.is_down;
-    is_at = p.going.is_at;
-    row_in = p.going.row_in;
-    col_in = p.going.col_in;
-    done_is = p.going.done_is;
-    kept = kept_then a.kept p.going.kept;
-  }
+  pub passed_end : {l m : List ℕ} → Kept (cell_count g) l m → Looked g outlets m i done
+      → Passed g outlets i done l m None
+  passed_end k p = record { going = ways_end k p; less = λ x e. absurd (none-some x e) }
 
 -- its measure: what the words add up to, and nothing at its end
-abbrev pub ahead : Downstream → ℕ → ℕ
-ahead End n = 0
-ahead (To row col at) n = suc n
-
-pub ahead_less : {s t : Downstream} {row col at m n : ℕ} → s ≡ To row col at
-    → ((r c a : ℕ) → t ≡ To r c a → n < m) → ahead t n < ahead s m
-ahead_less {t = t} {m = m} {n = n} e h = rw e (go t h)
-  where
-    go : (u : Downstream) → ((r c a : ℕ) → u ≡ To r c a → n < m) → ahead u n < suc m
-    go End k = omega arith
-    go (To r c a) k = omega (arith, k r c a refl)
+abbrev pub ahead : Option NumberedCell → ℕ → ℕ
+ahead None n = 0
+ahead (Some cell) n = suc n

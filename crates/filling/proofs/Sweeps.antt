@@ -12,11 +12,8 @@ use lib.Dec.{eqb}
 use borrow.Author.Tests.{eqb-true, eqb-false}
 use Rattle.lists.specs.Lists.{member}
 use Rattle.filling.specs.Filling.{strip_if, Stripped}
-use Rattle.lists.proofs.Kept.{kept_all, kept_then, kept_set}
+use Rattle.lists.proofs.Kept.{kept_then, kept_set}
 use Rattle.lists.proofs.Members.{member_it, member_other}
-
-pub strip_begin : {n : ℕ} {outlets l : List ℕ} → Stripped n outlets 0 l l
-strip_begin = record { kept = kept_all; words = λ x. refl }
 
 strip_twice : (b : Bool) (w : ℕ) → strip_if b w % 2 ^ 30 ≡ w % 2 ^ 30
 strip_twice true w = omega arith

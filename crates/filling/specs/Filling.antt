@@ -1,9 +1,8 @@
 -- What filling answers and leaves in the lent grid, and what the functions below it leave on the way.
 -- Assumes nothing.
-use Rattle.std.specs.Prelude.{◌≡◌, Bool, true, false, cond, List, ℕ, ◌+◌, ◌*◌, ◌%◌, ◌≤◌, ◌<◌, ◌^◌, length, get_or, take}
-use Rattle.std.proofs.Math.Option.{Option}
-use Rattle.downstream.specs.declared.Downstream.{Downstream}
-use Rattle.downstream.specs.declared.Downstream.TheVariants.{End, To}
+use Rattle.std.specs.Prelude.{◌≡◌, Bool, true, false, cond, List, ℕ, ◌+◌, ◌*◌, ◌%◌, ◌≤◌, ◌<◌, ◌^◌, length, get_or, take, Option, Some, None}
+use Rattle.std.proofs.Math.Option.{Option as Maybe}
+use Rattle.downstream.specs.declared.NumberedCell.{NumberedCell}
 use Rattle.lists.specs.Lists.{member, all_below, sum_of}
 use Rattle.ground.specs.Compass.{Dir}
 use Rattle.ground.specs.Grid.{Grid, Link, grid_of, cell_count, ground, next, inflows}
@@ -43,7 +42,7 @@ pub record Stripped (n : ℕ) (outlets : List ℕ) (j : ℕ) (old new : List ℕ
 
 module _ (g : Grid) (outlets : List ℕ) where
   -- the network cut at the outlets
-  abbrev pub next_cut : ℕ → Option (Link Dir)
+  abbrev pub next_cut : ℕ → Maybe (Link Dir)
   next_cut = cut_next (is_outlet g outlets) (next g)
 
   abbrev pub ups_cut : ℕ → List (Link Dir)
@@ -63,18 +62,18 @@ module _ (g : Grid) (outlets : List ℕ) where
   Down words n here done = Walking ups_cut (ground g) (cell_count g) (flag_of outlets) (λ x. get_or words x 0) n here done
 
   -- a way down: it is at a cell, or at its end
-  pub record Going (looked done : ℕ) (old new : List ℕ) (r : Downstream) : Type 0 where
-    pub is_down : (row col at : ℕ) → r ≡ To row col at → Down new looked at done
-    pub is_at : (row col at : ℕ) → r ≡ To row col at → at ≡ row * g.cols + col
-    pub row_in : (row col at : ℕ) → r ≡ To row col at → row < g.rows
-    pub col_in : (row col at : ℕ) → r ≡ To row col at → col < g.cols
-    pub done_is : r ≡ End → Looked new looked done
+  pub record Going (looked done : ℕ) (old new : List ℕ) (r : Option NumberedCell) : Type 0 where
+    pub is_down : (cell : NumberedCell) → r ≡ Some cell → Down new looked cell.at done
+    pub is_at : (cell : NumberedCell) → r ≡ Some cell → cell.at ≡ cell.cell.row * g.cols + cell.cell.col
+    pub row_in : (cell : NumberedCell) → r ≡ Some cell → cell.cell.row < g.rows
+    pub col_in : (cell : NumberedCell) → r ≡ Some cell → cell.cell.col < g.cols
+    pub done_is : r ≡ None → Looked new looked done
     pub kept : Kept (cell_count g) old new
 
   -- what one step down leaves: where the way goes on, the words add up to less
-  pub record Passed (looked done : ℕ) (old new : List ℕ) (r : Downstream) : Type 0 where
+  pub record Passed (looked done : ℕ) (old new : List ℕ) (r : Option NumberedCell) : Type 0 where
     pub going : Going looked done old new r
-    pub less : (row col at : ℕ) → r ≡ To row col at → sum_of new < sum_of old
+    pub less : (cell : NumberedCell) → r ≡ Some cell → sum_of new < sum_of old
 
   -- does every walk come to its end or to an outlet?
   unfoldable pub cut_free : Bool

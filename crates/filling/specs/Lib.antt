@@ -1,3 +1,4 @@
 pub mod Cut
 pub mod Packed
 pub mod Filling
+pub mod Grids

@@ -8,193 +8,145 @@
 
 ghost use Rattle.std.specs.Prelude.{◌+◌, ◌*◌, ◌≤◌, ◌<◌, length};
 ghost use Rattle.lists.specs.Slices.{Kept, Within};
-ghost use Rattle.ground.specs.Grid.{grid_of};
-ghost use Rattle.filling.specs.Filling.{Fillable, FillableAt, Flagged, Stripped};
-ghost use Rattle.filling.specs.Filling.{Looked, Down, Passed, Fills};
+ghost use Rattle.moves.specs.Grids.{ground_of};
+ghost use Rattle.filling.specs.Filling.{Flagged, Stripped, Looked, Down, Passed, Fills};
+ghost use Rattle.filling.specs.Grids.{Fillable, FillableAt};
 
 use cells::{Cell, split_number};
 use counting::{INFLOW, count_all};
-use downstream::{Downstream, downstream_of, offsets};
-use lists::{clear, index_of};
+use downstream::{NumberedCell, downstream_of, offsets};
+use lists::clear;
+use moves::Grid;
 
 // The flag of an outlet.
 const FLAG: u32 = 1073741824;
 
 // Flags the outlet at a place of the list, once: the cell that it flows to no longer waits for it.
-fn flag_at(rows: usize, cols: usize, codes: &[u8], outlets: &[u32], words: &mut [u32], place: usize)
-    requires fillable { Fillable rows cols codes.now outlets.now words.old × (place < length outlets.now) }
-    requires flagged { Flagged (grid_of rows cols codes.now) outlets.now words.old place }
-    ensures flags { Flagged (grid_of rows cols codes.now) outlets.now words.new
-        (place + 1) }
-    ensures keeps { Kept (rows * cols) words.old words.new }
+fn flag_at(grid: Grid, outlets: &[u32], words: &mut [u32], place: usize)
+    requires fillable { Fillable grid outlets.now words.old × (place < length outlets.now) }
+    requires flagged { Flagged (ground_of grid) outlets.now words.old place }
+    ensures flags { Flagged (ground_of grid.entry) outlets.now words.new (place + 1) }
+    ensures keeps { Kept (grid.entry.rows * grid.entry.cols) words.old words.new }
 {
     let outlet = outlets[place];
-    let at = index_of(outlet);
-    let own = words[at];
-    if own >= FLAG {
+    let at = outlet as usize;
+    if words[at] >= FLAG {
         return;
     }
-    words[at] = own + FLAG;
-    let steps = offsets(cols);
-    let cell = split_number(cols, outlet);
-    match downstream_of(rows, cols, codes, &steps, cell.row, cell.col, at) {
-        Downstream::End => return,
-        Downstream::To {
-            row: _,
-            col: _,
-            at: to,
-        } => {
-            let below = words[to];
-            words[to] = below - INFLOW;
-        }
+    words[at] += FLAG;
+    let steps = offsets(grid.cols);
+    let cell = split_number(grid.cols, outlet);
+    if let Some(below) = downstream_of(grid, &steps, NumberedCell { cell, at }) {
+        words[below.at] -= INFLOW;
     }
 }
 
 // Flags the outlets in words that are counted.
-fn flag(rows: usize, cols: usize, codes: &[u8], outlets: &[u32], words: &mut [u32])
-    requires fillable { Fillable rows cols codes.now outlets.now words.old }
-    requires flagged { Flagged (grid_of rows cols codes.now) outlets.now words.old 0 }
-    ensures flags { Flagged (grid_of rows cols codes.now) outlets.now words.new
-        (length outlets.now) }
-    ensures keeps { Kept (rows * cols) words.old words.new }
+fn flag(grid: Grid, outlets: &[u32], words: &mut [u32])
+    requires fillable { Fillable grid outlets.now words.old }
+    requires flagged { Flagged (ground_of grid) outlets.now words.old 0 }
+    ensures flags { Flagged (ground_of grid.entry) outlets.now words.new (length outlets.now) }
+    ensures keeps { Kept (grid.entry.rows * grid.entry.cols) words.old words.new }
 {
-    let mut j: usize = 0;
-    while j < outlets.len() {
-        flag_at(rows, cols, codes, outlets, words, j);
-        j += 1;
+    for j in 0..outlets.len() {
+        flag_at(grid, outlets, words, j);
     }
 }
 
 // Passes a cell that waits for nothing down to the cell that it flows to, and tells where the way goes on.
 fn pass_down(
-    rows: usize,
-    cols: usize,
-    codes: &[u8],
+    grid: Grid,
     outlets: &[u32],
     steps: &[usize; 8],
     words: &mut [u32],
-    row: usize,
-    col: usize,
-    at: usize,
+    here: NumberedCell,
     looked: usize,
     done: u32,
-) -> Downstream
-    requires fillable_at { FillableAt rows cols codes.now outlets.now steps.now words.old row col at }
-    requires down { Down (grid_of rows cols codes.now) outlets.now words.old looked at done }
-    ensures { Passed (grid_of rows cols codes.now) outlets.now looked (done + 1)
-        words.old words.new result }
+) -> Option<NumberedCell>
+    requires fillable_at { FillableAt grid outlets.now steps.now words.old here }
+    requires down { Down (ground_of grid) outlets.now words.old looked here.at done }
+    ensures { Passed (ground_of grid.entry) outlets.now looked (done + 1) words.old words.new result }
 {
-    let word = words[at];
+    let word = words[here.at];
     if word >= FLAG {
-        return Downstream::End;
+        return None;
     }
-    match downstream_of(rows, cols, codes, steps, row, col, at) {
-        Downstream::End => Downstream::End,
-        Downstream::To {
-            row: r,
-            col: c,
-            at: to,
-        } => {
-            let below = words[to];
-            let sum = below + word - INFLOW;
-            words[to] = sum;
-            if sum % FLAG >= INFLOW {
-                return Downstream::End;
-            }
-            Downstream::To {
-                row: r,
-                col: c,
-                at: to,
-            }
-        }
+    let below = downstream_of(grid, steps, here)?;
+    let sum = words[below.at] + word - INFLOW;
+    words[below.at] = sum;
+    if sum % FLAG >= INFLOW {
+        return None;
     }
+    Some(below)
 }
 
 // The way down from a headwater. It hands back how many cells are done.
 fn walk_down(
-    rows: usize,
-    cols: usize,
-    codes: &[u8],
+    grid: Grid,
     outlets: &[u32],
     steps: &[usize; 8],
     words: &mut [u32],
-    row: usize,
-    col: usize,
-    at: usize,
-    done: u32,
+    here: NumberedCell,
+    mut done: u32,
 ) -> u32
-    requires fillable_at { FillableAt rows cols codes.now outlets.now steps.now words.old row col at }
-    requires down { Down (grid_of rows cols codes.now) outlets.now words.old (at + 1) at done }
-    ensures looks { Looked (grid_of rows cols codes.now) outlets.now words.new
-        (at + 1) result }
-    ensures keeps { Kept (rows * cols) words.old words.new }
+    requires fillable_at { FillableAt grid outlets.now steps.now words.old here }
+    requires down { Down (ground_of grid) outlets.now words.old (here.at + 1) here.at done }
+    ensures looks { Looked (ground_of grid.entry) outlets.now words.new (here.at + 1) result }
+    ensures keeps { Kept (grid.entry.rows * grid.entry.cols) words.old words.new }
 {
-    let looked = at + 1;
-    let mut n = done;
-    let mut s = Downstream::To { row, col, at };
-    loop {
-        match s {
-            Downstream::End => return n,
-            Downstream::To {
-                row: r,
-                col: c,
-                at: x,
-            } => {
-                s = pass_down(rows, cols, codes, outlets, steps, words, r, c, x, looked, n);
-                n += 1;
-            }
-        }
+    let looked = here.at + 1;
+    let mut next = Some(here);
+    while let Some(down) = next {
+        next = pass_down(grid, outlets, steps, words, down, looked, done);
+        done += 1;
     }
+    done
 }
 
 // Looks at a cell, and goes down from it if it is a headwater. It hands back how many cells are done.
 fn look_at(
-    rows: usize,
-    cols: usize,
-    codes: &[u8],
+    grid: Grid,
     outlets: &[u32],
     steps: &[usize; 8],
     words: &mut [u32],
-    row: usize,
-    col: usize,
-    at: usize,
+    here: NumberedCell,
     done: u32,
 ) -> u32
-    requires fillable_at { FillableAt rows cols codes.now outlets.now steps.now words.old row col at }
-    requires looked { Looked (grid_of rows cols codes.now) outlets.now words.old at done }
-    ensures looks { Looked (grid_of rows cols codes.now) outlets.now words.new
-        (at + 1) result }
-    ensures keeps { Kept (rows * cols) words.old words.new }
+    requires fillable_at { FillableAt grid outlets.now steps.now words.old here }
+    requires looked { Looked (ground_of grid) outlets.now words.old here.at done }
+    ensures looks { Looked (ground_of grid.entry) outlets.now words.new (here.at + 1) result }
+    ensures keeps { Kept (grid.entry.rows * grid.entry.cols) words.old words.new }
 {
-    let word = words[at];
+    let word = words[here.at];
     if word == 0 {
         return done + 1;
     }
     if word % FLAG == 1 {
-        return walk_down(rows, cols, codes, outlets, steps, words, row, col, at, done);
+        return walk_down(grid, outlets, steps, words, here, done);
     }
     done
 }
 
 // Looks at every cell. It hands back how many are done.
-fn look_at_all(rows: usize, cols: usize, codes: &[u8], outlets: &[u32], words: &mut [u32]) -> u32
-    requires fillable { Fillable rows cols codes.now outlets.now words.old }
-    requires looked { Looked (grid_of rows cols codes.now) outlets.now words.old 0 0 }
-    ensures looks { Looked (grid_of rows cols codes.now) outlets.now words.new
-        (rows * cols) result }
-    ensures keeps { Kept (rows * cols) words.old words.new }
+fn look_at_all(grid: Grid, outlets: &[u32], words: &mut [u32]) -> u32
+    requires fillable { Fillable grid outlets.now words.old }
+    requires looked { Looked (ground_of grid) outlets.now words.old 0 0 }
+    ensures looks { Looked (ground_of grid.entry) outlets.now words.new (grid.entry.rows * grid.entry.cols) result }
+    ensures keeps { Kept (grid.entry.rows * grid.entry.cols) words.old words.new }
 {
-    let n = rows * cols;
-    let steps = offsets(cols);
-    let mut done: u32 = 0;
-    let mut p = Cell { row: 0, col: 0 };
-    let mut at: usize = 0;
-    while at < n {
+    let steps = offsets(grid.cols);
+    let mut done = 0;
+    let mut cell = Cell { row: 0, col: 0 };
+    for at in 0..grid.rows * grid.cols {
         done = look_at(
-            rows, cols, codes, outlets, &steps, words, p.row, p.col, at, done,
+            grid,
+            outlets,
+            &steps,
+            words,
+            NumberedCell { cell, at },
+            done,
         );
-        p = p.next(cols);
-        at += 1;
+        cell = cell.next(grid.cols);
     }
     done
 }
@@ -205,33 +157,22 @@ fn strip(n: usize, outlets: &[u32], words: &mut [u32])
     ensures { Stripped n outlets.now (length outlets.now) words.old
         words.new }
 {
-    let mut j: usize = 0;
-    while j < outlets.len() {
-        let at = index_of(outlets[j]);
-        let word = words[at];
-        words[at] = word % FLAG;
-        j += 1;
+    for outlet in outlets {
+        words[*outlet as usize] %= FLAG;
     }
 }
 
 // Fills the first rows * cols places of a lent grid with the subaccumulation, which is the accumulation where there
 // are no outlets. Where a ring has no outlet on it, it clears these places and says false.
-pub fn fill(
-    rows: usize,
-    cols: usize,
-    codes: &[u8],
-    outlets: &[u32],
-    subaccumulation: &mut [u32],
-) -> bool
-    requires { Fillable rows cols codes.now outlets.now subaccumulation.old }
-    ensures { Fills (grid_of rows cols codes.now) outlets.now subaccumulation.old
-        result subaccumulation.new }
+pub fn fill(grid: Grid, outlets: &[u32], subaccumulation: &mut [u32]) -> bool
+    requires { Fillable grid outlets.now subaccumulation.old }
+    ensures { Fills (ground_of grid.entry) outlets.now subaccumulation.old result subaccumulation.new }
 {
-    let n = rows * cols;
-    count_all(rows, cols, codes, subaccumulation);
-    flag(rows, cols, codes, outlets, subaccumulation);
-    let done = look_at_all(rows, cols, codes, outlets, subaccumulation);
-    if index_of(done) != n {
+    let n = grid.rows * grid.cols;
+    count_all(grid, subaccumulation);
+    flag(grid, outlets, subaccumulation);
+    let done = look_at_all(grid, outlets, subaccumulation);
+    if done as usize != n {
         clear(n, subaccumulation);
         return false;
     }

@@ -8,6 +8,7 @@ use mathlib.Core.Option.{Option, none, some}
 use Prim.Native.Nat.{ℕ, zero, suc, ◌+◌, ◌<◌}
 use native.Mathlib.Omega.{arith}
 use lib.ListN.{length, get_or}
+use Rattle.std.specs.Prelude.{Some, None}
 use lib.Dec.{ltb}
 use borrow.Author.Tests.{eq-eqb, ne_eqb, lt-ltb}
 use Rattle.lists.specs.Lists.{member}
@@ -38,8 +39,8 @@ out c = is_outlet c.grid c.outlets
 -- the walk from start, on its way
 pub record Following (c : Catchment) (o start : ℕ) (w : Walk) (cell mark : ℕ) : Type 0 where
   pub is_cell : cell_of c.grid.cols w ≡ cell
-  pub row_in : w.row < c.grid.rows
-  pub col_in : w.col < c.grid.cols
+  pub row_in : w.cell.row < c.grid.rows
+  pub col_in : w.cell.col < c.grid.cols
   pub solid : ground c.grid cell ≡ true
   pub grown : steps w < get_or c.accumulation cell 0
   pub none_between : NoneBetween (length c.outlets) c.accumulation c.outlets (get_or c.accumulation cell 0)
@@ -110,7 +111,7 @@ module _ {c : Catchment} (s : Surveyed c) where
       go false v = absurd (true≢false (sym e ∙ not_inside o start v))
 
   -- a start as it is tested
-  pub not_placed : (o start : ℕ) → is_placed c.grid start ≡ false → 0 ≡ path_length c.grid c.outlets o start
+  pub not_placed : (o start : ℕ) → is_placed c.grid start ≡ false → None ≡ path_length c.grid c.outlets o start
   unfolding path_length
   not_placed o start z = sym (rw (not_inside o start (null (ground c.grid start) refl)))
     where
@@ -145,14 +146,14 @@ module _ {c : Catchment} {o start : ℕ} {w : Walk} {cell mark : ℕ} (f : Follo
 
   -- AT AN OUTLET: the one asked for, or another
   module _ (v : member cell c.outlets ≡ true) where
-    pub arrived : cell ≡ o → steps w + 1 ≡ path_length c.grid c.outlets o start
+    pub arrived : cell ≡ o → Some (steps w + 1) ≡ path_length c.grid c.outlets o start
     unfolding path_length
     arrived e =
         sym (rw (f.same_end, belongs_out (next c.grid) (out c) squares f.left o cell v, eq-eqb cell o e)
-        (f.same_cells ∙ ap (λ (l : List ℕ). steps w + length l)
-        (walked_out (next c.grid) (out c) f.left cell v)))
+        (ap (λ (n : ℕ). Some n) (f.same_cells ∙ ap (λ (l : List ℕ). steps w + length l)
+        (walked_out (next c.grid) (out c) f.left cell v))))
 
-    pub elsewhere : (cell ≡ o → ⊥) → 0 ≡ path_length c.grid c.outlets o start
+    pub elsewhere : (cell ≡ o → ⊥) → None ≡ path_length c.grid c.outlets o start
     unfolding path_length
     elsewhere e =
         sym (rw (f.same_end, belongs_out (next c.grid) (out c) squares f.left o cell v, ne_eqb cell o e))
@@ -160,7 +161,7 @@ module _ {c : Catchment} {o start : ℕ} {w : Walk} {cell mark : ℕ} (f : Follo
   -- AT ANOTHER CELL it ends, or goes on
   module _ {r : Walk} (on : WalkedOn c.grid w r) where
     pub lost : member cell c.outlets ≡ false → cell_of c.grid.cols r ≡ cell
-        → 0 ≡ path_length c.grid c.outlets o start
+        → None ≡ path_length c.grid c.outlets o start
     unfolding path_length
     lost v e =
         let z : next c.grid cell ≡ none = subst (λ (x : ℕ). next c.grid x ≡ none) f.is_cell

@@ -9,11 +9,11 @@ use Rattle.moves.specs.declared.Walk.{Walk}
 
 -- the number of the cell where a walk is
 abbrev pub cell_of : ℕ → Walk → ℕ
-cell_of cols w = w.row * cols + w.col
+cell_of cols w = w.cell.row * cols + w.cell.col
 
 -- a walk that begins at a cell
 pub record BeginsAt (cols number : ℕ) (w : Walk) : Type 0 where
-  pub cell : RowAndColumn cols number w.row w.col
+  pub cell : RowAndColumn cols number w.cell.row w.cell.col
   pub no_steps : w.length ≡ counts 0 0
 
 module _ (g : Grid) where

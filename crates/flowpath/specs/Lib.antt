@@ -1,3 +1,4 @@
 pub mod FlowPath
 pub mod Measuring
 pub mod Cells
+pub mod Grids

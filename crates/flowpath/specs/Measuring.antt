@@ -1,6 +1,6 @@
 -- What drawing takes for granted once checks 10 to 18 are passed, and what it measures before it writes.
 -- Assumes nothing.
-use Rattle.std.specs.Prelude.{◌≡◌, true, cond, List, ℕ, ◌≤◌, ◌<◌, length, get_or}
+use Rattle.std.specs.Prelude.{◌≡◌, true, cond, Option, Some, None, List, ℕ, ◌≤◌, ◌<◌, length, get_or}
 use Rattle.ground.specs.Grid.{Grid, cell_count, ground}
 use Rattle.ground.specs.Accumulation.{agrees}
 use Rattle.ground.specs.Subwatershed.{in_subwatershed, path_from}
@@ -31,5 +31,6 @@ pub record MarkedAt (accumulation outlets : List ℕ) (cell mark : ℕ) : Type 0
   pub none_between : NoneBetween (length outlets) accumulation outlets (get_or accumulation cell 0) mark
 
 -- how many cells are to be drawn: those of the path, and none where the start is not in the subwatershed
-unfoldable pub path_length : Grid → List ℕ → ℕ → ℕ → ℕ
-path_length g outlets o start = cond (in_subwatershed g outlets o start) (length (path_from g outlets start)) 0
+unfoldable pub path_length : Grid → List ℕ → ℕ → ℕ → Option ℕ
+path_length g outlets o start =
+    cond (in_subwatershed g outlets o start) (Some (length (path_from g outlets start))) None

@@ -1,43 +1,29 @@
 // The measure of a walk: how many cells it has from a start to its first outlet, if that is the outlet asked for.
 #![tactic(auto)]
 
-ghost use Rattle.std.specs.Prelude.{◌≡◌, true, ◌+◌, ◌≤◌, ◌<◌, length, get_or};
+ghost use Rattle.std.specs.Prelude.{◌≡◌, true, ◌+◌, ◌<◌, length, get_or};
 ghost use Rattle.lists.specs.Lists.{member};
-ghost use Rattle.ground.specs.Grid.{grid_of, ground};
-ghost use Rattle.answers.specs.Entries.{catchment};
-ghost use Rattle.flowpath.specs.Measuring.{Surveyed, OutletsIn, NoneBetween, MarkedAt, path_length};
+ghost use Rattle.ground.specs.Grid.{ground};
+ghost use Rattle.moves.specs.Grids.{ground_of};
+ghost use Rattle.flowpath.specs.Measuring.{OutletsIn, NoneBetween, MarkedAt, path_length};
+ghost use Rattle.flowpath.specs.Grids.{Surveyed};
 ghost use Rattle.flowpath.specs.Cells.{BeginsAt};
 
 use cells::split_number;
 use checks::is_placed;
 use lengths::Length;
-use lists::{index_of, is_among};
-use moves::Walk;
+use lists::is_among;
+use moves::{Grid, Walk};
 
 // The walk that begins at a cell.
 pub fn walk_from(cols: usize, start: u32) -> Walk
     requires { 0 < cols }
     ensures { BeginsAt cols start result }
 {
-    let cell = split_number(cols, start);
     Walk {
-        row: cell.row,
-        col: cell.col,
+        cell: split_number(cols, start),
         length: Length::none(),
     }
-}
-
-// The lesser of two accumulations, if the second is above a value; else the first.
-fn lower_above(value: u32, least: u32, other: u32) -> u32
-    ensures { (result ≤ least) × (other < result → other ≤ value) }
-{
-    if other <= value {
-        return least;
-    }
-    if other < least {
-        return other;
-    }
-    least
 }
 
 // The least accumulation of an outlet above a value.
@@ -46,12 +32,12 @@ fn least_above(accumulation: &[u32], outlets: &[u32], value: u32) -> u32
     ensures { NoneBetween (length outlets.now) accumulation.now outlets.now
         (value + 1) result }
 {
-    let mut least: u32 = 4294967295;
-    let mut j: usize = 0;
-    while j < outlets.len() {
-        let at = index_of(outlets[j]);
-        least = lower_above(value, least, accumulation[at]);
-        j += 1;
+    let mut least = u32::MAX;
+    for &outlet in outlets {
+        let other = accumulation[outlet as usize];
+        if value < other {
+            least = least.min(other);
+        }
     }
     least
 }
@@ -75,64 +61,55 @@ fn meets_outlet(accumulation: &[u32], outlets: &[u32], cell: usize, mark: u32) -
     requires { MarkedAt accumulation.now outlets.now cell mark }
     ensures { result ≡ member cell outlets.now }
 {
-    if accumulation[cell] < mark {
-        return false;
-    }
-    is_among(outlets, 0, cell)
+    mark <= accumulation[cell] && is_among(outlets, 0, cell)
 }
 
-// Follows the walk from a cell of ground to its first outlet: how many cells it has if that is the outlet asked for,
-// else 0.
+// Follows the walk from a cell of ground to its first outlet: how many cells it has, if that is the outlet asked for.
 fn follow(
-    rows: usize,
-    cols: usize,
-    codes: &[u8],
+    grid: Grid,
     accumulation: &[u32],
     outlets: &[u32],
-    outlet: usize,
+    outlet: u32,
     start: u32,
-) -> usize
-    requires surveyed { Surveyed (catchment rows cols codes.now accumulation.now outlets.now) }
-    requires start_value { ground (grid_of rows cols codes.now) start ≡ true }
-    ensures { result ≡ path_length (grid_of rows cols codes.now) outlets.now outlet start }
+) -> Option<usize>
+    requires surveyed { Surveyed grid accumulation.now outlets.now }
+    requires start_value { ground (ground_of grid) start ≡ true }
+    ensures { result ≡ path_length (ground_of grid.entry) outlets.now outlet start }
 {
-    let mut walk = walk_from(cols, start);
-    let mut cell = index_of(start);
+    let mut walk = walk_from(grid.cols, start);
+    let mut cell = start as usize;
     let mut mark: u32 = 0;
     loop {
         if meets_outlet(accumulation, outlets, cell, mark) {
-            if cell != outlet {
-                return 0;
+            if cell != outlet as usize {
+                return None;
             }
-            let length = walk.length;
-            return index_of(length.straight + length.diagonal) + 1;
+            let steps = walk.length.straight + walk.length.diagonal;
+            return Some(steps as usize + 1);
         }
         mark = mark_after(accumulation, outlets, cell, mark);
-        walk = walk.step(rows, cols, codes);
-        let to = walk.row * cols + walk.col;
+        walk = walk.step(grid);
+        let to = walk.cell.row * grid.cols + walk.cell.col;
         if to == cell {
-            return 0;
+            return None;
         }
         cell = to;
     }
 }
 
-// The number of cells of the path from any start; 0 where the start is beyond the grid, null, or not the outlet's own.
+// The number of cells of the path from any start; none where the start is beyond the grid, null, or not the outlet's own.
 pub fn path_length(
-    rows: usize,
-    cols: usize,
-    codes: &[u8],
+    grid: Grid,
     accumulation: &[u32],
     outlets: &[u32],
     outlet: u32,
     start: u32,
-) -> usize
-    requires { Surveyed (catchment rows cols codes.now accumulation.now outlets.now) }
-    ensures { result ≡ path_length (grid_of rows cols codes.now) outlets.now outlet start }
+) -> Option<usize>
+    requires { Surveyed grid accumulation.now outlets.now }
+    ensures { result ≡ path_length (ground_of grid.entry) outlets.now outlet start }
 {
-    if is_placed(rows, cols, codes, start) {
-        let to = index_of(outlet);
-        return follow(rows, cols, codes, accumulation, outlets, to, start);
+    if !is_placed(grid, start) {
+        return None;
     }
-    0
+    follow(grid, accumulation, outlets, outlet, start)
 }

@@ -8,39 +8,16 @@ use native.Mathlib.Numerals.{add-one}
 use native.Mathlib.Omega.{arith}
 use lib.ListN.{length, get_or, set, take, length-set, length-append}
 use lib.Seq.{get_or-set_same, get_or-set_other, take-suc-set}
-use lib.Arith.{digits_lt, digits_div, digits_mod}
+use lib.Arith.{digits_div, digits_mod}
 use lib.Dec.{eqb}
 use borrow.Author.Count.{below_more}
 use borrow.Author.Tests.{eqb-true, eqb-false}
 use Rattle.lists.specs.Lists.{member}
 use Rattle.lists.proofs.Kept.{kept_all, kept_then, kept_wider, kept_set}
 use Rattle.ground.specs.Grid.{Grid, cell_count}
-use Rattle.moves.specs.Lent.{Sides}
-use Rattle.moves.proofs.Spots.{size}
 use Rattle.notes.specs.Notes.{cells_held, with_inside, Noted}
 use Rattle.notes.proofs.Notes.{cells_inside, outlet_inside, inside_again}
 use Rattle.gathering.specs.Gathering.{cell_of, listed, OnList, Enters, Follow}
-
--- ---- a cell, and its word
-
-pub record Placed (rows cols row col : ℕ) (grid : List ℕ) : Type 0 where
-  pub row_small : row < 4096
-  pub col_small : col < 4096
-  pub inside : row * cols + col < rows * cols
-  pub at_small : row * cols + col < 4096 * 4096
-  pub has_word : row * cols + col < length grid
-
-pub placed : {rows cols row col : ℕ} {grid : List ℕ} → Sides rows cols → row < rows → col < cols
-    → rows * cols ≤ length grid → Placed rows cols row col grid
-placed {rows} {cols} {row} {col} s r c h =
-    let i : row * cols + col < rows * cols = digits_lt r c in
-    record {
-      row_small = omega (arith, s.rows_small);
-      col_small = omega (arith, s.cols_small);
-      inside = i;
-      at_small = omega (arith, i, size s);
-      has_word = omega arith;
-    }
 
 -- ---- the list
 

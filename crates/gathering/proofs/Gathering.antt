@@ -4,6 +4,7 @@ use mathlib.Core.Path.{◌≡◌, sym, ap, ◌∙◌}
 use mathlib.Core.List.{List, [], ◌∷◌, ◌++◌}
 use Prim.Native.Nat.{ℕ, ◌+◌, ◌-◌, ◌*◌, ◌/◌, ◌%◌, ◌≤◌, ◌<◌}
 use native.Mathlib.Omega.{arith}
+use lib.Arith.{digits_lt}
 use lib.ListN.{length, get_or, set, take, length-append}
 use lib.Seq.{get_or-take, length-take-le}
 use Rattle.lists.specs.Slices.{Kept}
@@ -16,8 +17,7 @@ use Rattle.ground.proofs.Ground.{sub_size}
 use Rattle.notes.specs.Notes.{with_inside}
 use Rattle.gathering.specs.Gathering.{cell_of, listed, exchanged, tributaries, OnList, Enters, Follow, CanFollow}
 use Rattle.gathering.specs.Gathering.{ListsFrom, NewestFirst, CanGather, Gathers}
-use Rattle.gathering.proofs.Following.{Placed, placed, follow_one, enter_one, enter_then, enter_same}
-use Rattle.gathering.proofs.Following.{noted_still}
+use Rattle.gathering.proofs.Following.{follow_one, enter_one, enter_then, enter_same, noted_still}
 use Rattle.gathering.proofs.Exchanging.{exchange, same_members, listed_length, listed_exchanged, on_exchanged}
 use Rattle.gathering.proofs.Exchanging.{kept_exchanged}
 use Rattle.gathering.proofs.Reaching.{Outlet, Reached, reached_few, reached_first, reached_next, reached_cells}
@@ -49,9 +49,6 @@ module _ {rows cols : ℕ} {codes outlets : List ℕ} {row col : ℕ} {grid list
     solid = can.solid;
   }
 
-  pub outlet_placed : Placed rows cols row col grid
-  outlet_placed = placed can.grid_lent.sides can.row_in can.col_in can.noted.has_room
-
   some_cells : 1 ≤ subaccumulation g outlets o
   some_cells = omega (arith, sub_size g can.accumulation can.agreed outlets o can.solid)
 
@@ -73,7 +70,7 @@ module _ {rows cols : ℕ} {codes outlets : List ℕ} {row col : ℕ} {grid list
   }) some_room can.row_in can.col_in can.grid_lent.sides.cols_small
 
   outlet_entered : Enters (rows * cols) (o ∷ []) grid grid₁
-  outlet_entered = enter_one outlet_placed.inside can.noted.has_room
+  outlet_entered = enter_one (digits_lt can.row_in can.col_in) can.noted.has_room
 
   pub gathered_first : Gathered rows cols codes outlets o grid₁ list₁ 1 0 grid₁ list₁
   gathered_first = record {

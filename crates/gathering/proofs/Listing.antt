@@ -3,21 +3,22 @@
 use mathlib.Core.Path.{◌≡◌, refl, ap}
 use mathlib.Core.Bool.{Bool, true, false, cond}
 use mathlib.Core.List.{List, [], ◌∷◌, ◌++◌}
-use Prim.Native.Nat.{ℕ, ◌+◌, ◌*◌, ◌/◌, ◌%◌, ◌≤◌, ◌<◌, ◌^◌}
+use Prim.Native.Nat.{ℕ, ◌+◌, ◌*◌, ◌/◌, ◌%◌, ◌<◌, ◌^◌}
 use native.Mathlib.Omega.{arith}
+use lib.Arith.{digits_lt}
 use lib.ListN.{length, get_or, set, take, length-append}
 use Rattle.lists.specs.Lists.{member}
 use Rattle.ground.specs.Compass.{Dir, dirs}
 use Rattle.ground.specs.Grid.{grid_of}
-use Rattle.moves.specs.declared.Spot.{Spot}
-use Rattle.moves.specs.declared.Spot.TheVariants.{Off, On}
+use Rattle.std.specs.Prelude.{Option, Some, None}
+use Rattle.cells.specs.declared.Cell.{Cell}
 use Rattle.moves.specs.Moves.{dir_at}
 use Rattle.moves.specs.Walks.{FlowsFrom}
 use Rattle.notes.specs.Notes.{with_inside}
 use Rattle.gathering.specs.Gathering.{tributaries, CanFollow, ListsFrom}
 use Rattle.gathering.proofs.Tributaries.{from_first, from_next, from_few, from_off, from_outlet, from_on}
 use Rattle.gathering.proofs.Following.{follow_none, follow_one, follow_then, enter_none, enter_one, enter_then}
-use Rattle.gathering.proofs.Following.{Placed, placed, noted_still}
+use Rattle.gathering.proofs.Following.{noted_still}
 
 -- what flows into a cell, outlets left out
 abbrev into : (rows cols : ℕ) (codes outlets : List ℕ) (row col : ℕ) → List Dir → List ℕ
@@ -28,7 +29,7 @@ into rows cols codes outlets row col = tributaries (grid_of rows cols codes) out
 module _ {rows cols : ℕ} {codes outlets : List ℕ} {row col k n : ℕ} {grid list : List ℕ}
     (can : CanFollow rows cols codes outlets row col n grid list
     (length (into rows cols codes outlets row col (dir_at k ∷ []))))
-    {s : Spot} (p : FlowsFrom rows cols codes row col k s) where
+    {s : Option Cell} (p : FlowsFrom rows cols codes row col k s) where
   abbrev there : List ℕ
   there = into rows cols codes outlets row col (dir_at k ∷ [])
 
@@ -38,22 +39,22 @@ module _ {rows cols : ℕ} {codes outlets : List ℕ} {row col k n : ℕ} {grid 
   lists_none : there ≡ [] → Lists n grid list
   lists_none e = record { follow = rw e (follow_none can.on_list); enters = rw e enter_none }
 
-  pub lists_off : s ≡ Off → Lists n grid list
+  pub lists_off : s ≡ None → Lists n grid list
   lists_off e = lists_none (from_off outlets p e)
 
-  module _ {r c : ℕ} (e : s ≡ On r c) where
+  module _ {y : Cell} (e : s ≡ Some y) where
     abbrev at : ℕ
-    at = r * cols + c
+    at = y.row * cols + y.col
 
     abbrev note : ℕ
     note = get_or grid at 0 / 2 ^ 29 % 2
 
-    pub spot_placed : Placed rows cols r c grid
-    spot_placed = placed can.on.grid.sides (p.row_in r c e) (p.col_in r c e) can.noted.has_room
+    inside : at < rows * cols
+    inside = digits_lt (p.row_in y e) (p.col_in y e)
 
     -- an outlet has its note,
     is_noted : note ≡ cond (member at outlets) 1 0
-    is_noted = can.noted.outlet_notes at spot_placed.inside
+    is_noted = can.noted.outlet_notes at inside
 
     pub lists_outlet : note ≡ 1 → Lists n grid list
     lists_outlet h = lists_none (from_outlet outlets p e (go (member at outlets) is_noted))
@@ -74,11 +75,11 @@ module _ {rows cols : ℕ} {codes outlets : List ℕ} {row col k n : ℕ} {grid 
       pub one_fits : n < length list
       one_fits = omega (arith, can.room, ap length found)
 
-      pub lists_on : Lists (n + 1) (set grid at (with_inside (get_or grid at 0))) (set list n (r * 4096 + c))
+      pub lists_on : Lists (n + 1) (set grid at (with_inside (get_or grid at 0))) (set list n (y.row * 4096 + y.col))
       lists_on = record {
-        follow = rw found (follow_one can.on_list one_fits (p.row_in r c e) (p.col_in r c e)
+        follow = rw found (follow_one can.on_list one_fits (p.row_in y e) (p.col_in y e)
             can.on.grid.sides.cols_small);
-        enters = rw found (enter_one spot_placed.inside can.noted.has_room);
+        enters = rw found (enter_one inside can.noted.has_room);
       }
 
 -- ---- all neighbours
@@ -125,6 +126,3 @@ module _ {rows cols : ℕ} {codes outlets : List ℕ} {row col n : ℕ} {grid li
         follow = rw next (follow_then p.follow q.follow);
         enters = rw next (enter_then p.enters q.enters);
       }
-
-    pub lists_all : k ≤ 8 → 8 ≤ k → Listed dirs end grid' list'
-    lists_all h i = let e : k ≡ 8 = omega arith in rw e at p

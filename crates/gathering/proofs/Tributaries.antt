@@ -4,7 +4,7 @@ use mathlib.Core.Path.{◌≡◌, refl, sym, ap, ◌∙◌, subst}
 use mathlib.Core.Bool.{true, false}
 use mathlib.Core.Logic.{inl, inr}
 use mathlib.Core.List.{List, [], ◌∷◌, ◌++◌, map}
-use mathlib.Core.Option.{Option, none, some}
+use mathlib.Core.Option.{Option as Maybe, none, some}
 use Prim.Native.Nat.{ℕ, ◌+◌, ◌*◌, ◌≤◌, ◌<◌}
 use native.Mathlib.Numerals.{add-one}
 use native.Mathlib.Omega.{arith}
@@ -18,8 +18,8 @@ use Rattle.ground.specs.Accumulation.{subaccumulation}
 use Rattle.ground.proofs.Tables.{all_dirs}
 use Rattle.ground.proofs.Cells.{opposite_twice, flow_points}
 use Rattle.ground.proofs.GridNetwork.{stepped, next_back, inflow_next}
-use Rattle.moves.specs.declared.Spot.{Spot}
-use Rattle.moves.specs.declared.Spot.TheVariants.{Off, On}
+use Rattle.std.specs.Prelude.{Option, Some, None}
+use Rattle.cells.specs.declared.Cell.{Cell}
 use Rattle.moves.specs.Moves.{dir_at}
 use Rattle.moves.specs.Walks.{FlowsFrom}
 use Rattle.search.specs.Neighbours.{inflow_in, cells_in}
@@ -27,7 +27,7 @@ use Rattle.search.proofs.Neighbours.{found_in}
 use Rattle.upstream.proofs.Turning.{turns_is}
 use Rattle.gathering.specs.Gathering.{with_some, tributaries}
 
-some_append : (o : Option ℕ) (xs ys : List ℕ) → with_some o (xs ++ ys) ≡ with_some o xs ++ ys
+some_append : (o : Maybe ℕ) (xs ys : List ℕ) → with_some o (xs ++ ys) ≡ with_some o xs ++ ys
 some_append none xs ys = refl
 some_append (some y) xs ys = refl
 
@@ -73,7 +73,7 @@ module _ (g : Grid) (outlets : List ℕ) (x : ℕ) where
   from_cells [] = refl
   from_cells (d ∷ ds) = go (inflow_in g outlets x d) refl (from_cells ds)
     where
-      go : (o : Option ℕ) → inflow_in g outlets x d ≡ o
+      go : (o : Maybe ℕ) → inflow_in g outlets x d ≡ o
           → sum_of (map (subaccumulation g outlets) (from ds)) ≡ cells_in g outlets ds x
           → sum_of (map (subaccumulation g outlets) (from (d ∷ ds))) ≡ cells_in g outlets (d ∷ ds) x
       go none e ih = rw e (omega arith)
@@ -87,7 +87,7 @@ module _ (g : Grid) (outlets : List ℕ) (x : ℕ) where
   in_from y d e (f ∷ ds) (inl q) = rw (ap (inflow_in g outlets x) (sym q) ∙ e) (inl refl)
   in_from y d e (f ∷ ds) (inr i) = go (inflow_in g outlets x f) (in_from y d e ds i)
     where
-      go : (o : Option ℕ) → In y (from ds) → In y (with_some o (from ds))
+      go : (o : Maybe ℕ) → In y (from ds) → In y (with_some o (from ds))
       go none j = j
       go (some z) j = inr j
 
@@ -96,7 +96,7 @@ module _ (g : Grid) (outlets : List ℕ) (x : ℕ) where
   from_in y [] i = absurd i
   from_in y (d ∷ ds) i = go (inflow_in g outlets x d) refl (from_in y ds) i
     where
-      go : (o : Option ℕ) → inflow_in g outlets x d ≡ o
+      go : (o : Maybe ℕ) → inflow_in g outlets x d ≡ o
           → (In y (from ds) → (e : Dir) × (inflow_in g outlets x e ≡ some y)) → In y (with_some o (from ds))
           → (e : Dir) × (inflow_in g outlets x e ≡ some y)
       go none e ih j = ih j
@@ -136,7 +136,7 @@ joined g outlets y h e o = in_from g outlets h.cell y (opposite h.step) there di
 
 -- ---- as the code finds them: a neighbour that flows in, if it is no outlet
 
-module _ {rows cols : ℕ} {codes : List ℕ} {row col k : ℕ} (outlets : List ℕ) {s : Spot}
+module _ {rows cols : ℕ} {codes : List ℕ} {row col k : ℕ} (outlets : List ℕ) {s : Option Cell}
     (p : FlowsFrom rows cols codes row col k s) where
   abbrev x : ℕ
   x = row * cols + col
@@ -144,13 +144,13 @@ module _ {rows cols : ℕ} {codes : List ℕ} {row col k : ℕ} (outlets : List 
   abbrev land : Grid
   land = grid_of rows cols codes
 
-  pub from_off : s ≡ Off → tributaries land outlets x (dir_at k ∷ []) ≡ []
+  pub from_off : s ≡ None → tributaries land outlets x (dir_at k ∷ []) ≡ []
   from_off e = from_none land outlets x (dir_at k) (turns_is outlets p ∙ rw e)
 
-  module _ {r c : ℕ} (e : s ≡ On r c) where
-    pub from_outlet : member (r * cols + c) outlets ≡ true → tributaries land outlets x (dir_at k ∷ []) ≡ []
+  module _ {y : Cell} (e : s ≡ Some y) where
+    pub from_outlet : member (y.row * cols + y.col) outlets ≡ true → tributaries land outlets x (dir_at k ∷ []) ≡ []
     from_outlet o = from_none land outlets x (dir_at k) (turns_is outlets p ∙ rw (e, o))
 
-    pub from_on : member (r * cols + c) outlets ≡ false
-        → tributaries land outlets x (dir_at k ∷ []) ≡ (r * cols + c) ∷ []
-    from_on o = from_some land outlets x (dir_at k) (r * cols + c) (turns_is outlets p ∙ rw (e, o))
+    pub from_on : member (y.row * cols + y.col) outlets ≡ false
+        → tributaries land outlets x (dir_at k ∷ []) ≡ (y.row * cols + y.col) ∷ []
+    from_on o = from_some land outlets x (dir_at k) (y.row * cols + y.col) (turns_is outlets p ∙ rw (e, o))

@@ -2,71 +2,62 @@
 // going beyond an upper one; the list of outlets itself is named for the contracts' sake.
 #![tactic(auto)]
 
-ghost use Rattle.std.specs.Prelude.{[], ◌∷◌, ◌*◌, ◌+◌, ◌≤◌, ◌<◌, length};
+ghost use Rattle.std.specs.Prelude.{[], ◌∷◌, ◌≤◌, ◌<◌, length};
 ghost use Rattle.ground.specs.Compass.{dirs};
-ghost use Rattle.ground.specs.Grid.{grid_of};
 ghost use Rattle.moves.specs.Moves.{dir_at};
-ghost use Rattle.gathering.specs.Gathering.{tributaries, CanFollow, ListsFrom, NewestFirst, CanGather, Gathers};
+ghost use Rattle.moves.specs.Grids.{ground_of, number_in};
+ghost use Rattle.gathering.specs.Gathering.{tributaries, NewestFirst};
+ghost use Rattle.gathering.specs.Grids.{CanFollow, ListsFrom, CanGather, Gathers};
 
-use lists::index_of;
-use moves::{Spot, inflow_from};
+use cells::Cell;
+use moves::{Grid, inflow_from};
 use notes::{INSIDE, OUTLET};
 
 // Neighbour k of a cell, if it flows in and is no outlet, is entered and follows n others in the list.
 fn list_inflow(
-    rows: usize,
-    cols: usize,
-    codes: &[u8],
+    grid: Grid,
     outlets: &[u32],
-    row: usize,
-    col: usize,
+    cell: Cell,
     k: usize,
     n: usize,
-    grid: &mut [u32],
+    words: &mut [u32],
     list: &mut [u32],
 ) -> usize
-    requires { CanFollow rows cols codes.now outlets.now row col n grid.old list.old
-        (length (tributaries (grid_of rows cols codes.now) outlets.now (row * cols + col) (dir_at k ∷ []))) }
-    ensures { ListsFrom rows cols codes.now outlets.now row col (dir_at k ∷ []) n
-        grid.old list.old result grid.new list.new }
+    requires { CanFollow grid outlets.now cell n words.old list.old
+        (length (tributaries (ground_of grid) outlets.now (number_in grid cell) (dir_at k ∷ []))) }
+    ensures { ListsFrom grid.entry outlets.now cell (dir_at k ∷ []) n words.old list.old result
+        words.new list.new }
 {
-    match inflow_from(rows, cols, codes, row, col, k) {
-        Spot::Off => n,
-        Spot::On { row: r, col: c } => {
-            let at = r * cols + c;
-            let word = grid[at];
-            if word / OUTLET % 2 == 1 {
-                return n;
-            }
-            grid[at] = word % INSIDE + INSIDE;
-            list[n] = (r * 4096 + c) as u32;
-            n + 1
-        }
+    let Some(from) = inflow_from(grid, cell, k) else {
+        return n;
+    };
+    let at = from.row * grid.cols + from.col;
+    let word = words[at];
+    if word / OUTLET % 2 == 1 {
+        return n;
     }
+    words[at] = word % INSIDE + INSIDE;
+    list[n] = (from.row * 4096 + from.col) as u32;
+    n + 1
 }
 
 // The same for all neighbours.
 fn list_inflows(
-    rows: usize,
-    cols: usize,
-    codes: &[u8],
+    grid: Grid,
     outlets: &[u32],
-    row: usize,
-    col: usize,
+    cell: Cell,
     n: usize,
-    grid: &mut [u32],
+    words: &mut [u32],
     list: &mut [u32],
 ) -> usize
-    requires { CanFollow rows cols codes.now outlets.now row col n grid.old list.old
-        (length (tributaries (grid_of rows cols codes.now) outlets.now (row * cols + col) dirs)) }
-    ensures { ListsFrom rows cols codes.now outlets.now row col dirs n
-        grid.old list.old result grid.new list.new }
+    requires { CanFollow grid outlets.now cell n words.old list.old
+        (length (tributaries (ground_of grid) outlets.now (number_in grid cell) dirs)) }
+    ensures { ListsFrom grid.entry outlets.now cell dirs n words.old list.old result
+        words.new list.new }
 {
     let mut end = n;
-    let mut k: usize = 0;
-    while k < 8 {
-        end = list_inflow(rows, cols, codes, outlets, row, col, k, end, grid, list);
-        k += 1;
+    for k in 0..8 {
+        end = list_inflow(grid, outlets, cell, k, end, words, list);
     }
     end
 }
@@ -77,47 +68,30 @@ fn newest_first(k: usize, n: usize, list: &mut [u32]) -> usize
     requires { (k < n) × (n ≤ length list.old) }
     ensures { NewestFirst k n list.old result list.new }
 {
-    let last = n - 1;
-    let number = list[last];
-    list[last] = list[k];
-    list[k] = number;
-    index_of(number)
+    list.swap(n - 1, k);
+    list[k] as usize
 }
 
 // Lists the cells of the subwatershed of an outlet in the first places of a list, and notes each as inside. It answers
 // how many there are.
-pub fn gather(
-    rows: usize,
-    cols: usize,
-    codes: &[u8],
-    outlets: &[u32],
-    row: usize,
-    col: usize,
-    grid: &mut [u32],
-    list: &mut [u32],
-) -> usize
-    requires { CanGather rows cols codes.now outlets.now row col grid.old list.old }
-    ensures { Gathers rows cols codes.now outlets.now (row * cols + col)
-        grid.old list.old result grid.new list.new }
+pub fn gather(grid: Grid, outlets: &[u32], cell: Cell, words: &mut [u32], list: &mut [u32]) -> usize
+    requires { CanGather grid outlets.now cell words.old list.old }
+    ensures { Gathers grid.entry outlets.now (number_in grid.entry cell) words.old list.old result
+        words.new list.new }
 {
-    let at = row * cols + col;
-    grid[at] = grid[at] % INSIDE + INSIDE;
-    list[0] = (row * 4096 + col) as u32;
-    let mut n: usize = 1;
-    let mut k: usize = 0;
+    let at = cell.row * grid.cols + cell.col;
+    words[at] = words[at] % INSIDE + INSIDE;
+    list[0] = (cell.row * 4096 + cell.col) as u32;
+    let mut n = 1;
+    let mut k = 0;
+    // No for: the number of listed cells grows meanwhile.
     while k < n {
-        let cell = newest_first(k, n, list);
-        n = list_inflows(
-            rows,
-            cols,
-            codes,
-            outlets,
-            cell / 4096,
-            cell % 4096,
-            n,
-            grid,
-            list,
-        );
+        let number = newest_first(k, n, list);
+        let next = Cell {
+            row: number / 4096,
+            col: number % 4096,
+        };
+        n = list_inflows(grid, outlets, next, n, words, list);
         k += 1;
     }
     n

@@ -1,7 +1,8 @@
 -- What the functions for C hand back in numbers. A place for results is written on every call: it holds values handed
 -- back, which are 0 on refusal where 01 says so, and is no lent slice that a refusal leaves as it was.
 -- Assumes nothing.
-use Rattle.std.specs.Prelude.{◌≡◌, Bool, not, List, [], ◌∷◌, ℕ, length, eqb}
+use Rattle.std.specs.Prelude.{◌≡◌, Result, Bool, not, List, [], ◌∷◌, ℕ, length, eqb}
+use Rattle.answers.specs.declared.Refusal.{Refusal}
 use Rattle.answers.specs.declared.Traced.{Traced}
 use Rattle.alloutlets.specs.declared.TracedAll.{TracedAll}
 use Rattle.answers.specs.Answers.{in_numbers}
@@ -11,10 +12,9 @@ use Rattle.alloutlets.specs.AllOutlets.{LentAll, TracesAll}
 use Rattle.alloutlets.specs.Part.{part_begin, part_count}
 use Rattle.answers.specs.Drawing.{Drawing, Draws}
 use Rattle.spelling.specs.declared.Sheet.{Sheet}
-use Rattle.spelling.specs.declared.Written.{Written}
-use Rattle.spelling.specs.Reading.{Reads}
+use Rattle.spelling.specs.Reading.{Reads, sheet_told}
 use Rattle.spelling.specs.Content.{Content}
-use Rattle.spelling.specs.Writing.{Writes}
+use Rattle.spelling.specs.Writing.{Writes, written_told}
 
 -- C's truth: any number but 0
 abbrev pub non_zero : ℕ → Bool
@@ -56,13 +56,13 @@ pub record DrawingInC (q : Drawing) (old : List ℕ) (number : ℕ) (drawn new :
   pub is_drawn : drawn ≡ count ∷ []
 
 pub record ReadingInC (file codes outlets : List ℕ) (number : ℕ) (shape newCodes newOutlets : List ℕ) : Type 0 where
-  pub sheet : Sheet
+  pub sheet : Result Sheet Refusal
   pub reads : Reads file codes outlets sheet newCodes newOutlets
-  pub is_number : number ≡ sheet.number
-  pub is_shape : shape ≡ sheet.rows ∷ sheet.cols ∷ sheet.outlets ∷ []
+  pub is_number : number ≡ (sheet_told sheet).number
+  pub is_shape : let s = sheet_told sheet in shape ≡ s.rows ∷ s.cols ∷ s.outlets ∷ []
 
 pub record WritingInC (c : Content) (old : List ℕ) (number : ℕ) (size new : List ℕ) : Type 0 where
-  pub written : Written
+  pub written : Result ℕ Refusal
   pub writes : Writes c old written new
-  pub is_number : number ≡ written.number
-  pub is_size : size ≡ written.length ∷ []
+  pub is_number : number ≡ (written_told written).number
+  pub is_size : size ≡ (written_told written).length ∷ []

@@ -15,7 +15,7 @@ ghost use Rattle.spelling.specs.Content.{content};
 ghost use Rattle.host.specs.Results.{non_zero, InNumbers, RecursionInC, StackInC, DrawingInC, ReadingInC};
 ghost use Rattle.host.specs.Results.{AllInC, PartInC, WritingInC};
 
-use answers::{Traced, in_numbers};
+use answers::{Traced, in_numbers, number_told};
 
 #[unsafe(no_mangle)]
 pub extern "C" fn jb_accumulate(
@@ -27,7 +27,7 @@ pub extern "C" fn jb_accumulate(
     ensures { Accumulates (grid_of rows cols codes.now) accumulation.old result
         accumulation.new }
 {
-    accumulation::accumulate(rows, cols, codes, accumulation)
+    number_told(accumulation::accumulate(rows, cols, codes, accumulation))
 }
 
 #[unsafe(no_mangle)]
@@ -39,7 +39,7 @@ pub extern "C" fn jb_check_accumulation(
 ) -> u32
     ensures { result ≡ check_number (grid_of rows cols codes.now) accumulation.now }
 {
-    accumulation::check_accumulation(rows, cols, codes, accumulation)
+    number_told(accumulation::check_accumulation(rows, cols, codes, accumulation))
 }
 
 #[unsafe(no_mangle)]
@@ -55,7 +55,14 @@ pub extern "C" fn jb_subaccumulate(
         (catchment rows cols codes.now accumulation.now outlets.now)
         subaccumulation.old result subaccumulation.new }
 {
-    accumulation::subaccumulate(rows, cols, codes, accumulation, outlets, subaccumulation)
+    number_told(accumulation::subaccumulate(
+        rows,
+        cols,
+        codes,
+        accumulation,
+        outlets,
+        subaccumulation,
+    ))
 }
 
 #[unsafe(no_mangle)]
@@ -77,7 +84,7 @@ pub extern "C" fn jb_flow_lengths(
         (length_grids down_straight.new down_diagonal.new up_straight.new
         up_diagonal.new) }
 {
-    flowlengths::flow_lengths(
+    number_told(flowlengths::flow_lengths(
         rows,
         cols,
         codes,
@@ -87,7 +94,7 @@ pub extern "C" fn jb_flow_lengths(
         down_diagonal,
         up_straight,
         up_diagonal,
-    )
+    ))
 }
 
 #[unsafe(no_mangle)]
@@ -102,15 +109,14 @@ pub extern "C" fn jb_convert(
     ensures { Converts (conversion from to rows cols codes.now) converted.old result
         converted.new }
 {
-    converting::convert(from, to, rows, cols, codes, converted)
+    number_told(converting::convert(from, to, rows, cols, codes, converted))
 }
 
 // Stores straight, diagonal, paths, visited and dropped, and hands back the number.
 fn hand_back(t: Traced, results: &mut [u32; 5]) -> u32
     ensures { InNumbers t result results.new }
 {
-    let answer = t.answer;
-    let n = in_numbers(answer);
+    let n = in_numbers(t.answer);
     *results = [n.straight, n.diagonal, n.paths, t.visited, t.dropped];
     n.number
 }
@@ -248,10 +254,16 @@ pub extern "C" fn jb_draw(
         (drawing_of rows cols codes.now accumulation.now outlets.now place start)
         path.old result drawn.new path.new }
 {
-    let d = drawing::draw_into(rows, cols, codes, accumulation, outlets, place, start, path);
-    let count = d.count;
-    *drawn = [count as u32];
-    d.number
+    match drawing::draw_into(rows, cols, codes, accumulation, outlets, place, start, path) {
+        Ok(count) => {
+            *drawn = [count as u32];
+            0
+        }
+        Err(refusal) => {
+            *drawn = [0];
+            refusal.number()
+        }
+    }
 }
 
 #[unsafe(no_mangle)]
@@ -264,9 +276,16 @@ pub extern "C" fn jb_read_sheet(
     ensures { ReadingInC file.now codes.old outlets.old result shape.new
         codes.new outlets.new }
 {
-    let sheet = reading::read(file, codes, outlets);
-    *shape = [sheet.rows, sheet.cols, sheet.outlets];
-    sheet.number
+    match reading::read(file, codes, outlets) {
+        Ok(sheet) => {
+            *shape = [sheet.rows, sheet.cols, sheet.outlets];
+            0
+        }
+        Err(refusal) => {
+            *shape = [0; 3];
+            refusal.number()
+        }
+    }
 }
 
 #[unsafe(no_mangle)]
@@ -281,7 +300,14 @@ pub extern "C" fn jb_write_sheet(
     ensures { WritingInC (content rows cols codes.now outlets.now) file.old
         result size.new file.new }
 {
-    let written = writing::write(rows, cols, codes, outlets, file);
-    *size = [written.length];
-    written.number
+    match writing::write(rows, cols, codes, outlets, file) {
+        Ok(length) => {
+            *size = [length];
+            0
+        }
+        Err(refusal) => {
+            *size = [0];
+            refusal.number()
+        }
+    }
 }

@@ -2,13 +2,14 @@
 -- Assumes nothing.
 use mathlib.Core.Path.{◌≡◌, refl, sym, ap, ◌∙◌}
 use mathlib.Core.Bool.{Bool, true, false, cond}
-use mathlib.Core.List.{List, [], ◌∷◌, ◌++◌}
-use mathlib.Core.Option.{Option, none, some}
+use mathlib.Core.List.{List, [], ◌∷◌}
+use mathlib.Core.Option.{Option as Maybe, none, some}
 use Prim.Native.Nat.{ℕ, ◌+◌, ◌-◌, ◌*◌, ◌<◌}
 use native.Mathlib.Omega.{arith}
-use native.Mathlib.Numerals.{add-one}
-use lib.ListN.{length, get_or, take}
-use lib.Seq.{take-suc, ext_get_or}
+use Rattle.std.specs.List.{sum_by}
+use Rattle.std.proofs.lemmas.List.Sums.{sum_by_from}
+use lib.ListN.{length, get_or}
+use lib.Seq.{ext_get_or}
 use lib.Dec.{eqb}
 use Rattle.lists.specs.Lists.{sum_of}
 use Rattle.lists.proofs.Lists.{get_d_map}
@@ -16,9 +17,9 @@ use Rattle.ground.specs.Compass.{Dir, NE, dirs, opposite}
 use Rattle.ground.specs.Tables.{table1}
 use Rattle.ground.specs.Grid.{Grid, grid_of, neighbour, flows_in, inflow_value, inflow_record}
 use Rattle.ground.proofs.Cells.{code_inside}
+use Rattle.std.specs.Prelude.{Option, Some, None}
+use Rattle.cells.specs.declared.Cell.{Cell}
 use Rattle.moves.specs.declared.Neighbour.{Neighbour}
-use Rattle.moves.specs.declared.Spot.{Spot}
-use Rattle.moves.specs.declared.Spot.TheVariants.{Off, On}
 use Rattle.moves.specs.Lent.{OnCell}
 use Rattle.moves.specs.Moves.{Spotted, spot_cell, dir_at, neighbour_of}
 use Rattle.moves.specs.Walks.{if_flows_in, inflow_from, FlowsFrom}
@@ -33,10 +34,10 @@ module _ {rows cols : ℕ} {codes accumulation : List ℕ} {row col : ℕ}
   land = grid_of rows cols codes
 
   -- what the neighbour has that flows in, and 0 where there is none
-  abbrev value_of : Option ℕ → ℕ
+  abbrev value_of : Maybe ℕ → ℕ
   value_of o = elim o [ none ↦ 0 | some y ↦ get_or accumulation y 0 ]
 
-  value_of_lem : (o : Option ℕ) → inflow_value land accumulation (dir_at k) o ≡ value_of (if_flows_in land (dir_at k) o)
+  value_of_lem : (o : Maybe ℕ) → inflow_value land accumulation (dir_at k) o ≡ value_of (if_flows_in land (dir_at k) o)
   value_of_lem none = refl
   value_of_lem (some y) = go (flows_in land (dir_at k) (some y)) refl
     where
@@ -45,22 +46,23 @@ module _ {rows cols : ℕ} {codes accumulation : List ℕ} {row col : ℕ}
       go true e = rw e
       go false e = rw e
 
-  module _ {s : Spot} (p : FlowsFrom rows cols codes row col k s) where
+  module _ {s : Option Cell} (p : FlowsFrom rows cols codes row col k s) where
     value_is : value_at land accumulation (row * cols + col) k ≡ value_of (spot_cell cols s)
     unfolding inflow_from
     value_is = value_of_lem (neighbour land (row * cols + col) (dir_at k)) ∙ ap value_of (sym p.is_cell)
 
-    pub value_off : s ≡ Off → 0 ≡ value_at (grid_of rows cols codes) accumulation (row * cols + col) k
+    pub value_off : s ≡ None → 0 ≡ value_at (grid_of rows cols codes) accumulation (row * cols + col) k
     value_off e = sym (value_is ∙ rw e)
 
-    pub value_in : {x y : ℕ} → s ≡ On x y
-        → get_or accumulation (x * cols + y) 0 ≡ value_at (grid_of rows cols codes) accumulation (row * cols + col) k
+    pub value_in : {x : Cell} → s ≡ Some x
+        → get_or accumulation (x.row * cols + x.col) 0 ≡ value_at (grid_of rows cols codes) accumulation (row * cols + col) k
     value_in e = sym (value_is ∙ rw e)
 
 -- a neighbour of an inner cell is on the grid
 module _ {rows cols : ℕ} {codes : List ℕ} {row col : ℕ} (on : OnCell rows cols codes row col)
     (i : Inner rows cols row col) (k : ℕ) {n : Neighbour} (is-n : n ≡ neighbour_of (dir_at k)) where
-  pub inner_spot : Spotted rows cols row col n.row n.col (On (row + n.row - 1) (col + n.col - 1))
+  pub inner_spot : Spotted rows cols row col n.row n.col
+      (Some (record { row = row + n.row - 1; col = col + n.col - 1 }))
   inner_spot =
       let r = neighbour_in_reach on k is-n in
       on_grid (omega (arith, i.has_above)) (omega (arith, i.has_left))
@@ -121,12 +123,8 @@ record_is g accumulation x values e h = ext_get_or 0 values (inflow_record g acc
     value : Dir → ℕ
     value d = inflow_value g accumulation d (neighbour g x d)
 
--- one value more is added
-sum_append : (xs ys : List ℕ) → sum_of (xs ++ ys) ≡ sum_of xs + sum_of ys
+-- the library's sum
+pub sum_is : (xs : List ℕ) → sum_by (λ x. x) xs ≡ sum_of xs
 unfolding sum_of
-sum_append [] ys = omega arith
-sum_append (x ∷ xs) ys = omega (arith, sum_append xs ys)
-
-pub sum_take : (l : List ℕ) (k : ℕ) → k < length l → sum_of (take (k + 1) l) ≡ sum_of (take k l) + get_or l k 0
-unfolding sum_of
-sum_take l k h = rw (add-one k, take-suc l k 0 h, sum_append (take k l) (get_or l k 0 ∷ [])) (omega arith)
+sum_is [] = refl
+sum_is (x ∷ xs) = omega (arith, sum_by_from (λ y. y) (0 + x) xs, sum_is xs)

@@ -1,6 +1,6 @@
 -- Only the places of the cells changed.
 -- Assumes nothing.
-use mathlib.Core.Path.{◌≡◌}
+use mathlib.Core.Path.{◌≡◌, refl, ◌∙◌}
 use mathlib.Core.Bool.{Bool, true, false, cond}
 use mathlib.Core.List.{List}
 use Prim.Native.Nat.{ℕ, ◌<◌}
@@ -9,7 +9,19 @@ use lib.ListN.{set}
 use Rattle.lists.specs.Slices.{Kept}
 use Rattle.lists.proofs.Kept.{kept_all, kept_then, kept_set}
 use Rattle.answers.specs.FlowLengths.{LengthGrids}
-use Rattle.lengthgrids.specs.Grids.{Room, GridsKept}
+use Rattle.lengthgrids.specs.declared.Grids.{Grids}
+use Rattle.lengthgrids.specs.Grids.{SameGrids, Room, GridsKept}
+
+pub same_grids : {grids : Grids} → SameGrids grids grids
+same_grids = record { down_straight = refl; down_diagonal = refl; up_straight = refl; up_diagonal = refl }
+
+pub same_on : {a b c : Grids} → SameGrids a b → SameGrids b c → SameGrids a c
+same_on k l = record {
+  down_straight = l.down_straight ∙ k.down_straight;
+  down_diagonal = l.down_diagonal ∙ k.down_diagonal;
+  up_straight = l.up_straight ∙ k.up_straight;
+  up_diagonal = l.up_diagonal ∙ k.up_diagonal;
+}
 
 pub kept_grids : {n : ℕ} {lent : LengthGrids} → GridsKept n lent lent
 kept_grids = record {

@@ -1,24 +1,19 @@
 -- Marks put at the outlets, one by one.
 -- Assumes nothing.
-use mathlib.Core.Path.{◌≡◌, refl, sym, ap, ap₂, ◌∙◌, subst}
+use mathlib.Core.Path.{◌≡◌, refl, sym, ap, ◌∙◌, subst}
 use mathlib.Core.Bool.{Bool, true, false, cond}
 use mathlib.Core.List.{List}
-use Prim.Native.Nat.{ℕ, suc, ◌+◌, ◌≤◌, ◌<◌, ◌^◌}
+use Prim.Native.Nat.{ℕ, suc, ◌+◌, ◌≤◌, ◌<◌}
 use native.Mathlib.Numerals.{add-one}
 use native.Mathlib.Omega.{arith}
 use lib.ListN.{length, get_or, set, take}
-use lib.Seq.{get_or-set_same, get_or-set_other, take-length}
+use lib.Seq.{get_or-set_same, get_or-set_other}
 use lib.Dec.{eqb}
 use borrow.Author.Tests.{eqb-true, eqb-false}
 use Rattle.lists.specs.Lists.{member}
-use Rattle.lists.specs.Slices.{Cleared}
-use Rattle.lists.proofs.Kept.{kept_all, kept_then, kept_set}
+use Rattle.lists.proofs.Kept.{kept_then, kept_set}
 use Rattle.lists.proofs.Members.{member_it, member_other}
-use Rattle.answers.specs.FlowLengths.{length_grids}
-use Rattle.lengthgrids.specs.Grids.{MarkedWith, Prepared}
-
-pub marked_none : {n mark : ℕ} {outlets l : List ℕ} → MarkedWith n outlets 0 mark l l
-marked_none = record { kept = kept_all; marks = λ x. refl }
+use Rattle.lengthgrids.specs.Grids.{MarkedWith}
 
 pub marked_more : {n j o mark : ℕ} {outlets l m : List ℕ} → o ≡ get_or outlets j 0 → j < length outlets
     → get_or outlets j 0 < n → n ≤ length l → MarkedWith n outlets j mark l m
@@ -38,22 +33,3 @@ marked_more {n} {j} {o} {mark} {outlets} {l} {m} s h i r f = rw (add-one j) (rec
         ∙ sym (ap (λ (b : Bool). cond b mark (get_or l x 0)) (member_it outlets j h x (at_o x e)))
     go x false e = get_or-set_other m o x mark 0 (λ q. eqb-false o x e (sym q)) ∙ f.marks x
         ∙ sym (ap (λ (b : Bool). cond b mark (get_or l x 0)) (member_other outlets j h x (at_o x e)))
-
--- the grids cleared, and one of them marked
-module _ {n : ℕ} {outlets ds dd us ud ds' dd' us' ud' dm : List ℕ} where
-  pub prepared : Cleared n n ds ds' → Cleared n n dd dd' → Cleared n n us us' → Cleared n n ud ud'
-      → MarkedWith n outlets (length outlets) (2 ^ 31) dd' dm
-      → Prepared n outlets (length_grids ds dd us ud) (length_grids ds' dm us' ud')
-  prepared a b c d m = record {
-    kept = record {
-      down_straight = a.kept;
-      down_diagonal = kept_then b.kept m.kept;
-      up_straight = c.kept;
-      up_diagonal = d.kept;
-    };
-    down_straight = a.are_zero;
-    down_diagonal = λ x h. m.marks x ∙ ap₂ (λ (t : Bool) (v : ℕ). cond t (2 ^ 31) v)
-        (ap (member x) (take-length outlets)) (b.are_zero x h);
-    up_straight = c.are_zero;
-    up_diagonal = d.are_zero;
-  }

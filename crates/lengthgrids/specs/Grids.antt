@@ -6,9 +6,21 @@ use Rattle.lists.specs.Slices.{Kept}
 use Rattle.lengths.specs.declared.Step.{Step}
 use Rattle.lengths.specs.declared.Length.{Length}
 use Rattle.lengths.specs.Rule.{counts, plus_step, is_shorter}
-use Rattle.answers.specs.FlowLengths.{LengthGrids}
+use Rattle.answers.specs.FlowLengths.{LengthGrids, length_grids}
+use Rattle.lengthgrids.specs.declared.Grids.{Grids}
 
 -- ---- what is lent
+
+-- what the four hold
+abbrev pub held_by : Grids → LengthGrids
+held_by grids = length_grids grids.down_straight.now grids.down_diagonal.now grids.up_straight.now grids.up_diagonal.now
+
+-- they are still the same four
+pub record SameGrids (old new : Grids) : Type 0 where
+  pub down_straight : new.down_straight.ghost_name ≡ old.down_straight.ghost_name
+  pub down_diagonal : new.down_diagonal.ghost_name ≡ old.down_diagonal.ghost_name
+  pub up_straight : new.up_straight.ghost_name ≡ old.up_straight.ghost_name
+  pub up_diagonal : new.up_diagonal.ghost_name ≡ old.up_diagonal.ghost_name
 
 -- each grid has a place for each of n cells
 pub record Room (n : ℕ) (lent : LengthGrids) : Type 0 where

@@ -1,16 +1,23 @@
-// The four grids of flow lengths: cleared and marked, and a cell's length given to the cell above it or below it. ds
-// and dd are the grids of straight and diagonal steps downstream, us and ud those upstream. The marks of the outlets
-// stand in dd.
+// The four grids of flow lengths: cleared and marked, and a cell's length given to the cell above it or below it. The
+// marks of the outlets stand in the grid of diagonal steps downstream.
 #![tactic(auto)]
 
-ghost use Rattle.std.specs.Prelude.{◌≤◌, ◌<◌, ◌^◌, length, get_or};
+ghost use Rattle.std.specs.Prelude.{◌≡◌, ◌≤◌, ◌<◌, ◌^◌, length, get_or};
 ghost use Rattle.lists.specs.Slices.{Within};
-ghost use Rattle.answers.specs.FlowLengths.{length_grids};
-ghost use Rattle.lengthgrids.specs.Grids.{MarkedWith, Room, Prepared, Countable, GivesDown, GivesUp};
+ghost use Rattle.lengthgrids.specs.Grids.{held_by, SameGrids, MarkedWith, Room, Prepared, Countable, GivesDown, GivesUp};
 
-use lengths::{Length, Order, Step};
-use lists::{clear, index_of};
+use lengths::{Length, Step};
+use lists::clear;
 use traversal::MARK;
+
+// The grids of straight and diagonal steps downstream, and of those upstream.
+#[derive(Drop)]
+pub struct Grids<'a> {
+    pub down_straight: &'a mut [u32],
+    pub down_diagonal: &'a mut [u32],
+    pub up_straight: &'a mut [u32],
+    pub up_diagonal: &'a mut [u32],
+}
 
 // Puts a number in the place of each outlet.
 pub fn mark(n: usize, outlets: &[u32], marks: &mut [u32], to: u32)
@@ -18,33 +25,31 @@ pub fn mark(n: usize, outlets: &[u32], marks: &mut [u32], to: u32)
     ensures { MarkedWith n outlets.now (length outlets.now) to marks.old
         marks.new }
 {
-    let mut j: usize = 0;
-    while j < outlets.len() {
-        let at = index_of(outlets[j]);
-        marks[at] = to;
-        j += 1;
+    for at in outlets {
+        marks[*at as usize] = to;
     }
 }
 
-// Clears the places of the cells and marks the outlets.
-pub fn prepare(
-    n: usize,
-    outlets: &[u32],
-    ds: &mut [u32],
-    dd: &mut [u32],
-    us: &mut [u32],
-    ud: &mut [u32],
-)
-    requires { Room n (length_grids ds.old dd.old us.old ud.old) × Within n outlets.now }
-    ensures { Prepared n outlets.now
-        (length_grids ds.old dd.old us.old ud.old)
-        (length_grids ds.new dd.new us.new ud.new) }
-{
-    clear(n, ds);
-    clear(n, dd);
-    clear(n, us);
-    clear(n, ud);
-    mark(n, outlets, dd, MARK);
+impl Grids<'_> {
+    // The grid that the outlets are marked in.
+    pub fn marks(&self) -> &[u32]
+        ensures { result.now ≡ self.now.down_diagonal.now }
+    {
+        self.down_diagonal
+    }
+
+    // Clears the places of the cells and marks the outlets.
+    pub fn prepare(&mut self, n: usize, outlets: &[u32])
+        requires { Room n (held_by self.old) × Within n outlets.now }
+        ensures same { SameGrids self.old self.new }
+        ensures prepared { Prepared n outlets.now (held_by self.old) (held_by self.new) }
+    {
+        clear(n, self.down_straight);
+        clear(n, self.down_diagonal);
+        clear(n, self.up_straight);
+        clear(n, self.up_diagonal);
+        mark(n, outlets, self.down_diagonal, MARK);
+    }
 }
 
 // Gives the cell y above x its downstream length.
@@ -77,12 +82,8 @@ pub fn give_up(straights: &mut [u32], diagonals: &mut [u32], x: usize, y: usize,
         straight: straights[y],
         diagonal: diagonals[y],
     };
-    match own.compare(longer) {
-        Order::Shorter => {
-            straights[y] = longer.straight;
-            diagonals[y] = longer.diagonal;
-        }
-        Order::Same => return,
-        Order::Longer => return,
+    if own.compare(longer).is_lt() {
+        straights[y] = longer.straight;
+        diagonals[y] = longer.diagonal;
     }
 }

@@ -11,7 +11,7 @@ use lib.ListN.{length}
 use Rattle.lengths.specs.declared.Step.{Step}
 use Rattle.lengths.specs.declared.Step.TheVariants.{Straight, Diagonal}
 use Rattle.lengths.specs.declared.Length.{Length}
-use Rattle.lengths.specs.declared.Order.TheVariants.{Shorter, Same, Longer}
+use Rattle.std.specs.declared.cmp.Ordering.TheVariants.{Less, Equal, Greater}
 use Rattle.lengths.specs.Rule.{counts, plus_step, compared, is_shorter}
 use Rattle.lengths.specs.Lengths.{Lengths, square_cells, stepped_by, farthest}
 use Rattle.lengths.proofs.Surds.{surd_less, square_sum, surd_asym, surd_trans, surd_shift, surd_shift_left}
@@ -125,7 +125,7 @@ square_same l m h g = same_counts l m (compared_is l m ∙ cc (shorter_is l m, s
 -- A STEP ADDED TO BOTH KEEPS THE ORDER
 pub step_keeps : (l m : Length) (s : Step) → compared (plus_step l s) (plus_step m s) ≡ compared l m
 step_keeps l m s = compared_is (plus_step l s) (plus_step m s)
-    ∙ ap₂ (λ b c. cond b Shorter (cond c Longer Same)) (less_keeps l m) (less_keeps m l) ∙ sym (compared_is l m)
+    ∙ ap₂ (λ b c. cond b Less (cond c Greater Equal)) (less_keeps l m) (less_keeps m l) ∙ sym (compared_is l m)
   where
     shift : (x y : Length) → surd_less 2 (x.straight + straights s) (x.diagonal + diagonals s)
         (y.straight + straights s) (y.diagonal + diagonals s) ≡ surd_less 2 x.straight x.diagonal y.straight

@@ -9,8 +9,8 @@ use native.Mathlib.Decide.{dec_lt}
 use lib.Dec.{ltb}
 use borrow.Author.Tests.{lt-ltb, le-ltb}
 use Rattle.lengths.specs.declared.Length.{Length}
-use Rattle.lengths.specs.declared.Order.{Order}
-use Rattle.lengths.specs.declared.Order.TheVariants.{Shorter, Same, Longer}
+use Rattle.std.specs.declared.cmp.Ordering.{Ordering}
+use Rattle.std.specs.declared.cmp.Ordering.TheVariants.{Less, Equal, Greater}
 use Rattle.lengths.specs.Rule.{compared, says_shorter, is_shorter}
 use Rattle.lengths.proofs.Cases.{
   sign_less,
@@ -52,11 +52,11 @@ steep : (p : ℕ) → square_sum 2 p 0 ≡ p * p
 unfolding square_sum
 steep p = omega arith
 
-by_test : (b : Bool) → cond b Shorter Longer ≡ cond b Shorter (cond (not b) Longer Same)
+by_test : (b : Bool) → cond b Less Greater ≡ cond b Less (cond (not b) Greater Equal)
 by_test true = refl
 by_test false = refl
 
-by_other : (b : Bool) → cond b Longer Shorter ≡ cond (not b) Shorter (cond b Longer Same)
+by_other : (b : Bool) → cond b Greater Less ≡ cond (not b) Less (cond b Greater Equal)
 by_other true = refl
 by_other false = refl
 
@@ -81,25 +81,25 @@ module _ (l m : Length) where
   more_is u v u' v' e f g h = cc
 
   -- the rule's answer, once the numbers' order is known
-  answer : (b c : Bool) → less ≡ b → more ≡ c → compared l m ≡ cond b Shorter (cond c Longer Same)
-      → compared l m ≡ cond less Shorter (cond more Longer Same)
+  answer : (b c : Bool) → less ≡ b → more ≡ c → compared l m ≡ cond b Less (cond c Greater Equal)
+      → compared l m ≡ cond less Less (cond more Greater Equal)
   answer b c t u e = cc
 
   -- THE RULE: it says how the two numbers stand
-  pub compared_is : compared l m ≡ cond less Shorter (cond more Longer Same)
+  pub compared_is : compared l m ≡ cond less Less (cond more Greater Equal)
   unfolding square_sum
   compared_is = go (against l.straight m.straight) (against l.diagonal m.diagonal)
     where
       -- where one sign decides, or both agree
       shorter : (p q : ℕ) → l.straight + p ≡ m.straight → l.diagonal + q ≡ m.diagonal → 0 < p + q
-          → compared l m ≡ Shorter → compared l m ≡ cond less Shorter (cond more Longer Same)
+          → compared l m ≡ Less → compared l m ≡ cond less Less (cond more Greater Equal)
       shorter p q e f h k = answer true false (less_is 0 0 p q (omega arith) (omega arith) (omega arith) (omega arith)
           ∙ lt-ltb (square_sum 2 0 0) (square_sum 2 p q) (some_square p q h))
           (more_is 0 0 p q (omega arith) (omega arith) (omega arith) (omega arith)
           ∙ le-ltb (square_sum 2 p q) (square_sum 2 0 0) (omega arith)) k
 
       longer : (p q : ℕ) → m.straight + p ≡ l.straight → m.diagonal + q ≡ l.diagonal → 0 < p + q
-          → compared l m ≡ Longer → compared l m ≡ cond less Shorter (cond more Longer Same)
+          → compared l m ≡ Greater → compared l m ≡ cond less Less (cond more Greater Equal)
       longer p q e f h k = answer false true (less_is p q 0 0 (omega arith) (omega arith) (omega arith) (omega arith)
           ∙ le-ltb (square_sum 2 p q) (square_sum 2 0 0) (omega arith))
           (more_is p q 0 0 (omega arith) (omega arith) (omega arith) (omega arith)
@@ -107,7 +107,7 @@ module _ (l m : Length) where
 
       -- where the squares decide
       crossed : (p q : ℕ) → l.straight + p ≡ m.straight → 0 < p → m.diagonal + q ≡ l.diagonal → 0 < q → (b : Bool)
-          → ltb (2 * (q * q)) (p * p) ≡ b → compared l m ≡ cond less Shorter (cond more Longer Same)
+          → ltb (2 * (q * q)) (p * p) ≡ b → compared l m ≡ cond less Less (cond more Greater Equal)
       crossed p q e h f i b t =
           answer b (not b) (less_is 0 q p 0 (omega arith) (omega arith) (omega arith) (omega arith)
           ∙ ap₂ ltb (flat q) (steep p) ∙ t)
@@ -115,7 +115,7 @@ module _ (l m : Length) where
           ∙ square_other p q i b t) (less_more l m p q e h f i b t ∙ by_test b)
 
       crossed' : (p q : ℕ) → m.straight + p ≡ l.straight → 0 < p → l.diagonal + q ≡ m.diagonal → 0 < q
-          → (b : Bool) → ltb (2 * (q * q)) (p * p) ≡ b → compared l m ≡ cond less Shorter (cond more Longer Same)
+          → (b : Bool) → ltb (2 * (q * q)) (p * p) ≡ b → compared l m ≡ cond less Less (cond more Greater Equal)
       crossed' p q e h f i b t =
           answer (not b) b (less_is p 0 0 q (omega arith) (omega arith) (omega arith) (omega arith)
           ∙ ap₂ ltb (steep p) (flat q) ∙ square_other p q i b t)
@@ -123,7 +123,7 @@ module _ (l m : Length) where
           (more_less l m p q e h f i b t ∙ by_other b)
 
       go : Against l.straight m.straight → Against l.diagonal m.diagonal
-          → compared l m ≡ cond less Shorter (cond more Longer Same)
+          → compared l m ≡ cond less Less (cond more Greater Equal)
       go (level e) (level f) =
           answer false false (less_is 0 0 0 0 (omega arith) (omega arith) (omega arith) (omega arith))
           (more_is 0 0 0 0 (omega arith) (omega arith) (omega arith) (omega arith))
@@ -146,24 +146,24 @@ module _ (l m : Length) where
   unfolding is_shorter
   shorter_is = ap says_shorter compared_is ∙ by_less less more
     where
-      by_less : (b c : Bool) → says_shorter (cond b Shorter (cond c Longer Same)) ≡ b
+      by_less : (b c : Bool) → says_shorter (cond b Less (cond c Greater Equal)) ≡ b
       by_less true c = refl
       by_less false true = refl
       by_less false false = refl
 
 -- the other way round
-abbrev pub opposite : Order → Order
-opposite Shorter = Longer
-opposite Same = Same
-opposite Longer = Shorter
+abbrev pub opposite : Ordering → Ordering
+opposite Less = Greater
+opposite Equal = Equal
+opposite Greater = Less
 
 -- TOTAL: of two lengths one is shorter, or both have the same counts
 pub compared_back : (l m : Length) → compared m l ≡ opposite (compared l m)
 compared_back l m = compared_is m l ∙ turn (less l m) refl (more l m) refl ∙ sym (ap opposite (compared_is l m))
   where
     turn : (b : Bool) → less l m ≡ b → (c : Bool) → more l m ≡ c
-        → cond (more l m) Shorter (cond (less l m) Longer Same)
-        ≡ opposite (cond (less l m) Shorter (cond (more l m) Longer Same))
+        → cond (more l m) Less (cond (less l m) Greater Equal)
+        ≡ opposite (cond (less l m) Less (cond (more l m) Greater Equal))
     turn true t true u = absurd (true≢false
         (sym u ∙ surd_asym 2 l.straight l.diagonal m.straight m.diagonal t))
     turn true t false u = rw (t, u)
@@ -171,7 +171,7 @@ compared_back l m = compared_is m l ∙ turn (less l m) refl (more l m) refl ∙
     turn false t false u = rw (t, u)
 
 -- EQUAL ONLY AT EQUAL COUNTS: √2 is no fraction
-pub same_counts : (l m : Length) → compared l m ≡ Same → l ≡ m
+pub same_counts : (l m : Length) → compared l m ≡ Equal → l ≡ m
 same_counts l m e = go (less l m) refl (more l m) refl
   where
     go : (b : Bool) → less l m ≡ b → (c : Bool) → more l m ≡ c → l ≡ m
@@ -180,7 +180,7 @@ same_counts l m e = go (less l m) refl (more l m) refl
     go false t false u = let p = surd_same l.straight l.diagonal m.straight m.diagonal t u in
         λ i. record { straight = p.0 i; diagonal = p.1 i }
 
-pub same_refl : (l : Length) → compared l l ≡ Same
+pub same_refl : (l : Length) → compared l l ≡ Equal
 same_refl l = by_straight l l refl ∙ sign_same l.straight l.straight refl
 
 pub shorter_refl : (l : Length) → is_shorter l l ≡ false

@@ -2,10 +2,10 @@
 #![tactic(auto)]
 
 ghost use Rattle.std.specs.Prelude.{◌≡◌, ◌-◌, ◌*◌, ◌≤◌, ◌<◌, ◌^◌, ltb};
-ghost use Rattle.lengths.specs.Rule.{compared, counts, plus_step, sign_of};
+ghost use Rattle.lengths.specs.Rule.{compared, counts, plus_step};
 ghost use Rattle.lengths.specs.Lengths.{square_cells, farthest};
 
-use lists::wide;
+use std::cmp::Ordering;
 
 // One step of a walk.
 #[derive(Clone, Copy)]
@@ -19,27 +19,6 @@ pub enum Step {
 pub struct Length {
     pub straight: u32,
     pub diagonal: u32,
-}
-
-// How one length stands to another.
-#[derive(Clone, Copy)]
-pub enum Order {
-    Shorter,
-    Same,
-    Longer,
-}
-
-// The sign of x - y.
-fn order_of(x: u64, y: u64) -> Order
-    ensures { result ≡ sign_of x y }
-{
-    if x < y {
-        return Order::Shorter;
-    }
-    if y < x {
-        return Order::Longer;
-    }
-    Order::Same
 }
 
 // Is p² larger than 2q²? Half of p² is taken instead of twice q², so that any two counts fit 64 bits: as p² is never
@@ -68,8 +47,8 @@ impl Length {
         ensures { result ≡ farthest square_cells self n }
     {
         Length {
-            straight: self.straight,
             diagonal: self.diagonal + n,
+            ..self
         }
     }
 
@@ -81,44 +60,38 @@ impl Length {
         match step {
             Step::Straight => Length {
                 straight: self.straight + 1,
-                diagonal: self.diagonal,
+                ..self
             },
             Step::Diagonal => Length {
-                straight: self.straight,
                 diagonal: self.diagonal + 1,
+                ..self
             },
         }
     }
 
     // The comparison of any two lengths, by the signs and the squares of p and q, the differences of the counts.
-    pub fn compare(self, other: Length) -> Order
+    pub fn compare(self, other: Length) -> Ordering
         ensures { result ≡ compared self other }
     {
-        let a = wide(self.straight);
-        let b = wide(self.diagonal);
-        let c = wide(other.straight);
-        let d = wide(other.diagonal);
-        if b == d {
-            return order_of(a, c);
+        let a = u64::from(self.straight);
+        let b = u64::from(self.diagonal);
+        let c = u64::from(other.straight);
+        let d = u64::from(other.diagonal);
+        match (a.cmp(&c), b.cmp(&d)) {
+            (straight, Ordering::Equal) => straight,
+            (Ordering::Equal, diagonal) => diagonal,
+            (Ordering::Less, Ordering::Less) => Ordering::Less,
+            (Ordering::Greater, Ordering::Greater) => Ordering::Greater,
+            (Ordering::Less, Ordering::Greater) => if is_larger(c - a, b - d) {
+                Ordering::Less
+            } else {
+                Ordering::Greater
+            },
+            (Ordering::Greater, Ordering::Less) => if is_larger(a - c, d - b) {
+                Ordering::Greater
+            } else {
+                Ordering::Less
+            },
         }
-        if a == c {
-            return order_of(b, d);
-        }
-        if a < c {
-            if b < d {
-                return Order::Shorter;
-            }
-            if is_larger(c - a, b - d) {
-                return Order::Shorter;
-            }
-            return Order::Longer;
-        }
-        if d < b {
-            return Order::Longer;
-        }
-        if is_larger(a - c, d - b) {
-            return Order::Longer;
-        }
-        Order::Shorter
     }
 }

@@ -21,15 +21,13 @@ fn put_word(text: &mut [u8], at: usize, word: &[u8]) -> usize
     ensures { Appends word.now at text.old result text.new }
 {
     let mut to = at;
-    let mut i: usize = 0;
-    while i < word.len() {
-        to = put(text, to, word[i]);
-        i += 1;
+    for &byte in word {
+        to = put(text, to, byte);
     }
     to
 }
 
-// A number's decimal digits.
+// A number's decimal digits. By recursion: `write!` promises its text only where it answers Ok, and `Appends` holds always.
 fn put_number(text: &mut [u8], at: usize, n: u32) -> usize
     ensures { Appends (decimal n) at text.old result text.new }
 {

@@ -1,9 +1,8 @@
 -- The starts before an end, written to a list.
 -- Assumes nothing.
 use mathlib.Core.Path.{◌≡◌, refl, sym, ap, ◌∙◌, subst}
-use mathlib.Core.Logic.{◌⊎◌, inl, inr}
 use mathlib.Core.List.{List, [], ◌∷◌}
-use Prim.Native.Nat.{ℕ, zero, suc, ◌+◌, ◌-◌, ◌≤◌, ◌<◌}
+use Prim.Native.Nat.{ℕ, zero, suc, ◌+◌, ◌-◌, ◌≤◌, ◌<◌, min}
 use native.Mathlib.Omega.{arith}
 use native.Mathlib.Decide.{dec_lt}
 use lib.ListN.{length, get_or, set, take, length-set, get_or-append}
@@ -77,7 +76,9 @@ module _ {found : List ℕ} {end : ℕ} {old new : List ℕ} where
       (omega (arith, k, length-take-le (length old) (kept found end n) (omega (arith, kept_length found end n))))))
 
   -- as many as there is room for
-  pub listed : (n k : ℕ) → (k ≤ n) × (k ≤ length old) × ((k ≡ n) ⊎ (k ≡ length old)) → Listing found end k old new
+  pub listed : (n k : ℕ) → k ≡ min (length old) n → Listing found end k old new
       → new ≡ overlaid (kept found end n) old
-  listed n k (a, b, inl e) s = listing_all n (omega (arith, b, e)) (subst (λ (j : ℕ). Listing found end j old new) e s)
-  listed n k (a, b, inr e) s = listing_full n (omega (arith, a, e)) (subst (λ (j : ℕ). Listing found end j old new) e s)
+  listed n k e s = elim (dec_lt n (length old)) [
+    | yes a ↦ listing_all n (omega arith) (subst (λ (j : ℕ). Listing found end j old new) (omega arith) s)
+    | no a ↦ listing_full n (omega arith) (subst (λ (j : ℕ). Listing found end j old new) (omega arith) s)
+  ]

@@ -1,4 +1,4 @@
--- Stores that keep what lies beyond the first places, and places that are cleared.
+-- Stores that keep what lies beyond the first places.
 -- Assumes nothing.
 use mathlib.Core.Path.{◌≡◌, refl, ◌∙◌}
 use mathlib.Core.List.{List, [], ◌∷◌}
@@ -8,7 +8,7 @@ use lib.ListN.{length, get_or, set, length-set}
 use lib.Seq.{get_or-set_same, get_or-set_other}
 use borrow.Author.Count.{below_more}
 use Rattle.lists.specs.Lists.{sum_of}
-use Rattle.lists.specs.Slices.{Kept, Cleared}
+use Rattle.lists.specs.Slices.{Kept}
 
 pub kept_all : {n : ℕ} {l : List ℕ} → Kept n l l
 kept_all = record { same_length = refl; rest = λ x h. refl }
@@ -39,12 +39,3 @@ pub stored : (f : ℕ → ℕ) (l : List ℕ) (k v : ℕ) → k < length l → (
 stored f l k v inside below e =
     below_more (λ (j : ℕ). get_or (set l k v) j 0 ≡ f j) k
     (λ j h. get_or-set_other l k j v 0 (λ q. omega arith) ∙ below j h) (get_or-set_same l k v 0 inside ∙ e)
-
-pub clear_begin : {n : ℕ} {l : List ℕ} → Cleared n 0 l l
-clear_begin = record { kept = kept_all; are_zero = λ x h. absurd (omega arith) }
-
-pub clear_step : {n i : ℕ} {l m : List ℕ} → i < n → n ≤ length l → Cleared n i l m → Cleared n (i + 1) l (set m i 0)
-clear_step {n} {i} {l} {m} h r c = record {
-  kept = kept_then c.kept (kept_set i 0 h);
-  are_zero = stored (λ x. 0) m i 0 (omega (arith, c.kept.same_length)) c.are_zero refl;
-}

@@ -1,31 +1,13 @@
 -- Laws of the codes: what leads nowhere, and what leads on has a direction.
 -- Assumes nothing.
 use mathlib.Core.Path.{◌≡◌, refl, sym, ap, ◌∙◌}
-use mathlib.Core.Option.{Option, none, some}
+use mathlib.Core.Option.{Option as Maybe, none, some}
 use Prim.Native.Nat.{ℕ}
-use native.Mathlib.Omega.{arith}
+use Rattle.std.specs.Prelude.{Option, Some, None}
 use Rattle.moves.specs.declared.Move.{Move}
-use Rattle.moves.specs.declared.Lead.{Lead}
-use Rattle.moves.specs.declared.Lead.TheVariants.{Nowhere, By}
-use Rattle.ground.specs.Compass.{Dir, E, SE, S, SW, W, NW, N, NE, step_of}
+use Rattle.ground.specs.Compass.{Dir, step_of}
 use Rattle.ground.specs.Tables.{table1, dir_of}
-use Rattle.ground.proofs.Tables.{table_facts}
-use Rattle.moves.specs.Moves.{move_of, lead_by, lead_of, step_by}
-
--- what is none of our eight codes points in no direction
-pub no_dir : {k : ℕ} → (k ≡ 1 → ⊥) → (k ≡ 2 → ⊥) → (k ≡ 4 → ⊥) → (k ≡ 8 → ⊥) → (k ≡ 16 → ⊥) → (k ≡ 32 → ⊥)
-    → (k ≡ 64 → ⊥) → (k ≡ 128 → ⊥) → dir_of table1 k ≡ none
-no_dir {k} e se s sw w nw n ne = (table_facts table1).nowhere k other
-  where
-    other : (d : Dir) → k ≡ table1.code_of d → ⊥
-    other E = e
-    other SE = se
-    other S = s
-    other SW = sw
-    other W = w
-    other NW = nw
-    other N = n
-    other NE = ne
+use Rattle.moves.specs.Moves.{move_of, lead_by, lead_of, LeadsBy, step_by}
 
 -- a code that leads on has a direction
 pub record Leads (code : ℕ) (m : Move) : Type 0 where
@@ -33,29 +15,26 @@ pub record Leads (code : ℕ) (m : Move) : Type 0 where
   pub points : dir_of table1 code ≡ some dir
   pub is_move : m ≡ move_of dir
 
-pub leads : (code : ℕ) {l : Lead} {m : Move} → l ≡ lead_of code → l ≡ By m → Leads code m
+pub leads : (code : ℕ) {l : Option Move} {m : Move} → l ≡ lead_of code → l ≡ Some m → Leads code m
 unfolding lead_of
 leads code {l} {m} e f = go (dir_of table1 code) refl
   where
-    go : (o : Option Dir) → dir_of table1 code ≡ o → Leads code m
-    go none p =
-        let q : Nowhere ≡ By m = sym (e ∙ ap lead_by p) ∙ f in
-        let z : ◌≡◌ {A = ℕ} 0 1 = cc in
-        absurd (omega arith)
+    go : (o : Maybe Dir) → dir_of table1 code ≡ o → Leads code m
+    go none p = let q : None ≡ Some m = sym (e ∙ ap lead_by p) ∙ f in cc
     go (some d) p =
-        let q : By (move_of d) ≡ By m = sym (e ∙ ap lead_by p) ∙ f in
+        let q : Some (move_of d) ≡ Some m = sym (e ∙ ap lead_by p) ∙ f in
         record { dir = d; points = p; is_move = cc }
 
-pub leads_nowhere : (code : ℕ) {l : Lead} → l ≡ lead_of code → l ≡ Nowhere → dir_of table1 code ≡ none
+pub led : {code : ℕ} {m : Move} → LeadsBy code m → Leads code m
+led {code} e = leads code e refl
+
+pub leads_nowhere : (code : ℕ) {l : Option Move} → l ≡ lead_of code → l ≡ None → dir_of table1 code ≡ none
 unfolding lead_of
 leads_nowhere code {l} e f = go (dir_of table1 code) refl
   where
-    go : (o : Option Dir) → dir_of table1 code ≡ o → dir_of table1 code ≡ none
+    go : (o : Maybe Dir) → dir_of table1 code ≡ o → dir_of table1 code ≡ none
     go none p = p
-    go (some d) p =
-        let q : By (move_of d) ≡ Nowhere = sym (e ∙ ap lead_by p) ∙ f in
-        let z : ◌≡◌ {A = ℕ} 0 1 = cc in
-        absurd (omega arith)
+    go (some d) p = let q : Some (move_of d) ≡ None = sym (e ∙ ap lead_by p) ∙ f in cc
 
 -- the step of a code is its direction's
 pub step_points : (code : ℕ) (d : Dir) → dir_of table1 code ≡ some d → step_by (lead_of code) ≡ step_of d

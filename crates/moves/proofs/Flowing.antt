@@ -5,14 +5,13 @@ use mathlib.Core.List.{List}
 use mathlib.Core.Option.{none, some}
 use Prim.Native.Nat.{ℕ, ◌+◌, ◌*◌, ◌<◌}
 use native.Mathlib.Omega.{arith}
+use Rattle.std.specs.Prelude.{Option, Some, None}
+use Rattle.std.proofs.lemmas.Option.{none-some}
 use lib.ListN.{get_or}
 use lib.Arith.{digits_lt}
 use borrow.Author.Tests.{ne_eqb, eq-eqb}
+use Rattle.cells.specs.declared.Cell.{Cell}
 use Rattle.moves.specs.declared.Move.{Move}
-use Rattle.moves.specs.declared.Lead.{Lead}
-use Rattle.moves.specs.declared.Lead.TheVariants.{Nowhere}
-use Rattle.moves.specs.declared.Spot.{Spot}
-use Rattle.moves.specs.declared.Spot.TheVariants.{Off, On}
 use Rattle.ground.specs.Compass.{row_shift, col_shift}
 use Rattle.ground.specs.Tables.{table1, dir_of}
 use Rattle.ground.specs.Grid.{Grid, grid_of, code_at, flow, onto, next}
@@ -21,7 +20,7 @@ use Rattle.moves.specs.Lent.{OnCell}
 use Rattle.moves.specs.Moves.{shift_number, lead_of, InReach, spot_cell, Spotted}
 use Rattle.moves.specs.Walks.{Flows, FlowsTo}
 use Rattle.moves.proofs.Codes.{Leads, leads_nowhere}
-use Rattle.moves.proofs.Spots.{inside, off_on, shift_le, lies, spot_inside}
+use Rattle.moves.proofs.Spots.{inside, shift_le, lies, spot_inside}
 
 module _ {rows cols row col : ℕ} {codes : List ℕ} (on : OnCell rows cols codes row col) where
   abbrev land : Grid
@@ -33,16 +32,16 @@ module _ {rows cols row col : ℕ} {codes : List ℕ} (on : OnCell rows cols cod
   flow_is : flow land here ≡ dir_of table1 (get_or codes here 0)
   flow_is = ap (dir_of table1) (code_inside land here (inside on))
 
-  ended : next land here ≡ none → FlowsTo land here Off
+  ended : next land here ≡ none → FlowsTo land here None
   ended e = record {
     ends_here = λ q. e;
-    goes_on = λ r c q. absurd (off_on q);
-    row_in = λ r c q. absurd (off_on q);
-    col_in = λ r c q. absurd (off_on q);
+    goes_on = λ r q. absurd (none-some r q);
+    row_in = λ r q. absurd (none-some r q);
+    col_in = λ r q. absurd (none-some r q);
   }
 
-  pub flows_nowhere : {l : Lead} → l ≡ lead_of (get_or codes (row * cols + col) 0) → l ≡ Nowhere
-      → FlowsTo (grid_of rows cols codes) (row * cols + col) Off
+  pub flows_nowhere : {l : Option Move} → l ≡ lead_of (get_or codes (row * cols + col) 0) → l ≡ None
+      → FlowsTo (grid_of rows cols codes) (row * cols + col) None
   flows_nowhere e f = ended (next_none land here (flow_is ∙ leads_nowhere (get_or codes here 0) e f))
 
   module _ {m : Move} (led : Leads (get_or codes (row * cols + col) 0) m) where
@@ -61,37 +60,40 @@ module _ {rows cols row col : ℕ} {codes : List ℕ} (on : OnCell rows cols cod
       right_small = omega (arith, shift_le (col_shift led.dir), col_is);
     }
 
-    module _ {s : Spot} (p : Spotted rows cols row col m.row m.col s) where
+    module _ {s : Option Cell} (p : Spotted rows cols row col m.row m.col s) where
       next_spot : next land here ≡ onto land led.dir (spot_cell cols s)
       next_spot = next_along land here led.dir (flow_is ∙ led.points)
           ∙ ap (onto land led.dir) (lies p codes on.col_in led.dir row_is col_is)
 
-      pub flows_off : s ≡ Off → FlowsTo (grid_of rows cols codes) (row * cols + col) Off
+      pub flows_off : s ≡ None → FlowsTo (grid_of rows cols codes) (row * cols + col) None
       flows_off e = ended (next_spot ∙ rw e)
 
-      module _ {r c : ℕ} (e : s ≡ On r c) where
-        code_is : code_at land (r * cols + c) ≡ get_or codes (r * cols + c) 0
-        code_is = code_inside land (r * cols + c) (spot_inside p e)
+      module _ {x : Cell} (e : s ≡ Some x) where
+        abbrev to : ℕ
+        to = x.row * cols + x.col
 
-        pub flows_null : get_or codes (r * cols + c) 0 ≡ 0 → FlowsTo (grid_of rows cols codes) (row * cols + col) Off
-        flows_null z = ended (next_spot ∙ rw (e, eq-eqb (code_at land (r * cols + c)) 0 (code_is ∙ z)))
+        code_is : code_at land to ≡ get_or codes to 0
+        code_is = code_inside land to (spot_inside p e)
 
-        pub flows_on : (get_or codes (r * cols + c) 0 ≡ 0 → ⊥)
-            → FlowsTo (grid_of rows cols codes) (row * cols + col) (On r c)
+        pub flows_null : get_or codes (x.row * cols + x.col) 0 ≡ 0
+            → FlowsTo (grid_of rows cols codes) (row * cols + col) None
+        flows_null z = ended (next_spot ∙ rw (e, eq-eqb (code_at land to) 0 (code_is ∙ z)))
+
+        pub flows_on : (get_or codes (x.row * cols + x.col) 0 ≡ 0 → ⊥)
+            → FlowsTo (grid_of rows cols codes) (row * cols + col) (Some x)
         flows_on z = record {
-          ends_here = λ f. absurd (off_on (sym f));
-          goes_on = λ x y f. same x y f
-              (next_spot ∙ rw (e, ne_eqb (code_at land (r * cols + c)) 0 (λ q. z (sym code_is ∙ q))));
-          row_in = λ x y f. p.row_in x y (e ∙ f);
-          col_in = λ x y f. p.col_in x y (e ∙ f);
+          ends_here = λ f. absurd (none-some x (sym f));
+          goes_on = λ y f. same y f
+              (next_spot ∙ rw (e, ne_eqb (code_at land to) 0 (λ q. z (sym code_is ∙ q))));
+          row_in = λ y f. p.row_in y (e ∙ f);
+          col_in = λ y f. p.col_in y (e ∙ f);
         }
           where
-            same : (x y : ℕ) → On r c ≡ On x y → next land here ≡ some (record { cell = r * cols + c; step = led.dir })
-                → Flows land here (x * cols + y)
-            same x y f g = let a : r ≡ x = cc in let b : c ≡ y = cc in
-                (led.dir, rw (sym a, sym b) g)
+            same : (y : Cell) → Some x ≡ Some y → next land here ≡ some (record { cell = to; step = led.dir })
+                → Flows land here (y.row * cols + y.col)
+            same y f g = let a : x ≡ y = cc in (led.dir, rw (sym a) g)
 
 -- the cell that a cell flows to is on the grid
-pub reached : {rows cols x row col : ℕ} {codes : List ℕ} {s : Spot} → FlowsTo (grid_of rows cols codes) x s
-    → s ≡ On row col → row * cols + col < rows * cols
-reached {row = row} {col = col} t e = digits_lt (t.row_in row col e) (t.col_in row col e)
+pub reached : {rows cols x : ℕ} {codes : List ℕ} {s : Option Cell} {y : Cell} → FlowsTo (grid_of rows cols codes) x s
+    → s ≡ Some y → y.row * cols + y.col < rows * cols
+reached {y = y} t e = digits_lt (t.row_in y e) (t.col_in y e)

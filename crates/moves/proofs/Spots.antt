@@ -2,16 +2,17 @@
 -- Assumes nothing.
 use mathlib.Core.Path.{◌≡◌, refl, sym, ap, ◌∙◌}
 use mathlib.Core.List.{List}
-use mathlib.Core.Option.{Option, none, some}
+use mathlib.Core.Option.{Option as Maybe, none, some}
 use Prim.Native.Nat.{ℕ, zero, suc, ◌+◌, ◌-◌, ◌*◌, ◌≤◌, ◌<◌}
 use native.Mathlib.Nat.{mul-le-mul}
 use native.Mathlib.Omega.{arith}
 use lib.Arith.{digits_lt}
 use borrow.Author.Tests.{lt-ltb, le-ltb}
-use Rattle.moves.specs.declared.Spot.{Spot}
-use Rattle.moves.specs.declared.Spot.TheVariants.{Off, On}
+use Rattle.std.specs.Prelude.{Option, Some, None}
+use Rattle.std.proofs.lemmas.Option.{none-some}
+use Rattle.cells.specs.declared.Cell.{Cell}
 use Rattle.moves.specs.declared.Neighbour.{Neighbour}
-use Rattle.ground.specs.Compass.{Dir, NE, Shift, less, as_is, more, shifted, row_shift, col_shift}
+use Rattle.ground.specs.Compass.{Dir, Shift, less, as_is, more, shifted, row_shift, col_shift}
 use Rattle.ground.specs.Grid.{grid_of, cell_at, neighbour}
 use Rattle.ground.proofs.Cells.{neighbour_at}
 use Rattle.moves.specs.Lent.{Sides, OnCell}
@@ -26,9 +27,6 @@ size s = mul-le-mul s.rows_small s.cols_small
 pub inside : {rows cols row col : ℕ} {codes : List ℕ} → OnCell rows cols codes row col
     → row * cols + col < rows * cols
 inside o = digits_lt o.row_in o.col_in
-
-pub off_on : {row col : ℕ} → Off ≡ On row col → ⊥
-off_on e = let z : ◌≡◌ {A = ℕ} 0 1 = cc in omega arith
 
 -- ---- a row or a column shifted, by the shift's number
 
@@ -55,32 +53,32 @@ shift_high less bound x h p = absurd (omega arith)
 shift_high as_is bound x h p = absurd (omega arith)
 shift_high more bound x h p = rw (le-ltb (suc x) bound (omega arith))
 
-no_col : (cols : ℕ) (o : Option ℕ) → none ≡ cell_at cols o none
+no_col : (cols : ℕ) (o : Maybe ℕ) → none ≡ cell_at cols o none
 no_col cols none = refl
 no_col cols (some x) = refl
 
 module _ {rows cols row col down right : ℕ} where
   off : ((d : Dir) → down ≡ shift_number (row_shift d) → right ≡ shift_number (col_shift d)
       → none ≡ cell_at cols (shifted (row_shift d) rows row) (shifted (col_shift d) cols col))
-      → Spotted rows cols row col down right Off
-  off f = record { is_cell = f; row_in = λ x y e. absurd (off_on e); col_in = λ x y e. absurd (off_on e) }
+      → Spotted rows cols row col down right None
+  off f = record { is_cell = f; row_in = λ x e. absurd (none-some x e); col_in = λ x e. absurd (none-some x e) }
 
-  pub low_row : row + down < 1 → Spotted rows cols row col down right Off
+  pub low_row : row + down < 1 → Spotted rows cols row col down right None
   low_row h = off (λ d p q. rw (shift_low (row_shift d) rows row (omega arith)))
 
-  pub low_col : col + right < 1 → Spotted rows cols row col down right Off
+  pub low_col : col + right < 1 → Spotted rows cols row col down right None
   low_col h = off (λ d p q. rw (shift_low (col_shift d) cols col (omega arith))
       (no_col cols (shifted (row_shift d) rows row)))
 
-  pub high_row : row < rows → rows ≤ row + down - 1 → Spotted rows cols row col down right Off
+  pub high_row : row < rows → rows ≤ row + down - 1 → Spotted rows cols row col down right None
   high_row b h = off (λ d p q. rw (shift_high (row_shift d) rows row b (omega arith)))
 
-  pub high_col : col < cols → cols ≤ col + right - 1 → Spotted rows cols row col down right Off
+  pub high_col : col < cols → cols ≤ col + right - 1 → Spotted rows cols row col down right None
   high_col b h = off (λ d p q. rw (shift_high (col_shift d) cols col b (omega arith))
       (no_col cols (shifted (row_shift d) rows row)))
 
   pub on_grid : 1 ≤ row + down → 1 ≤ col + right → row + down - 1 < rows → col + right - 1 < cols
-      → Spotted rows cols row col down right (On (row + down - 1) (col + right - 1))
+      → Spotted rows cols row col down right (Some (record { row = row + down - 1; col = col + right - 1 }))
   on_grid a b c d = record {
     is_cell = λ e p q.
         rw (
@@ -89,34 +87,21 @@ module _ {rows cols row col down right : ℕ} where
           p,
           q,
         );
-    row_in = λ x y e. let q : row + down - 1 ≡ x = cc in omega arith;
-    col_in = λ x y e. let q : col + right - 1 ≡ y = cc in omega arith;
+    row_in = λ x e. let q : row + down - 1 ≡ x.row = cc in omega arith;
+    col_in = λ x e. let q : col + right - 1 ≡ x.col = cc in omega arith;
   }
 
   -- its cell number is the neighbour's, and that of a cell of the grid
-  pub lies : {s : Spot} → Spotted rows cols row col down right s → (codes : List ℕ) → col < cols
+  pub lies : {s : Option Cell} → Spotted rows cols row col down right s → (codes : List ℕ) → col < cols
       → (d : Dir) → down ≡ shift_number (row_shift d) → right ≡ shift_number (col_shift d)
       → neighbour (grid_of rows cols codes) (row * cols + col) d ≡ spot_cell cols s
   lies p codes h d u v = neighbour_at (grid_of rows cols codes) row col d h ∙ sym (p.is_cell d u v)
 
-  pub spot_inside : {s : Spot} → Spotted rows cols row col down right s → {x y : ℕ} → s ≡ On x y
-      → x * cols + y < rows * cols
-  spot_inside p {x} {y} e = digits_lt (p.row_in x y e) (p.col_in x y e)
+  pub spot_inside : {s : Option Cell} → Spotted rows cols row col down right s → {x : Cell} → s ≡ Some x
+      → x.row * cols + x.col < rows * cols
+  spot_inside p {x} e = digits_lt (p.row_in x e) (p.col_in x e)
 
 -- ---- the neighbours in order
-
--- the last is NE
-pub last_dir : (k : ℕ) → (k ≡ 0 → ⊥) → (k ≡ 1 → ⊥) → (k ≡ 2 → ⊥) → (k ≡ 3 → ⊥) → (k ≡ 4 → ⊥) → (k ≡ 5 → ⊥)
-    → (k ≡ 6 → ⊥) → dir_at k ≡ NE
-last_dir zero a b c d e f g = absurd (a refl)
-last_dir (suc zero) a b c d e f g = absurd (b refl)
-last_dir (suc (suc zero)) a b c d e f g = absurd (c refl)
-last_dir (suc (suc (suc zero))) a b c d e f g = absurd (d refl)
-last_dir (suc (suc (suc (suc zero)))) a b c d e f g = absurd (e refl)
-last_dir (suc (suc (suc (suc (suc zero))))) a b c d e f g = absurd (f refl)
-last_dir (suc (suc (suc (suc (suc (suc zero)))))) a b c d e f g = absurd (g refl)
-last_dir (suc (suc (suc (suc (suc (suc (suc zero))))))) a b c d e f g = refl
-last_dir (suc (suc (suc (suc (suc (suc (suc (suc k)))))))) a b c d e f g = refl
 
 module _ {rows cols : ℕ} {codes : List ℕ} {row col : ℕ} (on : OnCell rows cols codes row col)
     (k : ℕ) {n : Neighbour} (is-n : n ≡ neighbour_of (dir_at k)) where

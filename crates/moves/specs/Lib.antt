@@ -1,3 +1,4 @@
 pub mod Lent
 pub mod Moves
 pub mod Walks
+pub mod Grids

@@ -2,14 +2,17 @@
 // in.
 #![tactic(auto)]
 
-ghost use Rattle.std.specs.Prelude.{◌≡◌, ◌*◌, ◌+◌, ◌<◌, get_or};
-ghost use Rattle.ground.specs.Grid.{grid_of};
-ghost use Rattle.moves.specs.Lent.{OnCell};
+ghost use Rattle.std.specs.Prelude.{◌≡◌, ◌<◌};
+ghost use Rattle.moves.specs.Grids.{On, number_in, ground_of, code_at, FlowsIn, OnGrid, WalkedOn};
 ghost use Rattle.moves.specs.Moves.{by_move, lead_of, LeadsBy, step_by, InReach, Spotted};
 ghost use Rattle.moves.specs.Moves.{dir_at, near_by, neighbour_of};
-ghost use Rattle.moves.specs.Walks.{FlowsTo, FlowsFrom, OnGrid, WalkedOn};
+ghost use Rattle.moves.specs.Walks.{FlowsTo};
 
+use cells::Cell;
+pub use grid::Grid;
 use lengths::{Length, Step};
+
+mod grid;
 
 // A step: the change of row and of column, each plus one so that no number is negative, and whether it is straight or
 // diagonal.
@@ -20,25 +23,19 @@ pub struct Move {
     pub step: Step,
 }
 
-// Where a code leads.
-#[derive(Clone, Copy)]
-pub enum Lead {
-    Nowhere,
-    By(Move),
-}
-
-fn by(row: usize, col: usize, step: Step) -> Lead
+fn by(row: usize, col: usize, step: Step) -> Option<Move>
     ensures { result ≡ by_move row col step }
 {
-    Lead::By(Move { row, col, step })
+    Some(Move { row, col, step })
 }
 
 // The step of a code. A null cell and a pond lead nowhere, as does a byte that is no code.
-pub fn lead_of(code: u8) -> Lead
+#[tactic(auto, unfolding(crate::specs::Moves::lead_of, ground::specs::Tables::dir_of))]
+pub fn lead_of(code: u8) -> Option<Move>
     ensures { result ≡ lead_of code }
 {
     match code {
-        0 => Lead::Nowhere,
+        0 => None,
         1 => by(1, 2, Step::Straight),
         2 => by(2, 2, Step::Diagonal),
         4 => by(2, 1, Step::Straight),
@@ -47,8 +44,8 @@ pub fn lead_of(code: u8) -> Lead
         32 => by(0, 0, Step::Diagonal),
         64 => by(0, 1, Step::Straight),
         128 => by(0, 2, Step::Diagonal),
-        255 => Lead::Nowhere,
-        _ => Lead::Nowhere,
+        255 => None,
+        _ => None,
     }
 }
 
@@ -57,97 +54,67 @@ pub fn step_of(code: u8) -> Step
     ensures { result ≡ step_by (lead_of code) }
 {
     match lead_of(code) {
-        Lead::Nowhere => Step::Straight,
-        Lead::By(m) => {
-            let step = m.step;
-            step
-        }
+        Some(m) => m.step,
+        None => Step::Straight,
     }
-}
-
-// A cell of the grid by its row and column, or none.
-#[derive(Clone, Copy)]
-pub enum Spot {
-    Off,
-    On { row: usize, col: usize },
 }
 
 // The cell that a change of row and of column, each plus one, leads to. Row and column are tested apart, so that no
 // step wraps around a border.
-pub fn spot_at(rows: usize, cols: usize, row: usize, col: usize, down: usize, right: usize) -> Spot
-    requires { InReach rows cols row col down right }
-    ensures { Spotted rows cols row col down right result }
+pub fn spot_at(rows: usize, cols: usize, cell: Cell, down: usize, right: usize) -> Option<Cell>
+    requires { InReach rows cols cell.row cell.col down right }
+    ensures { Spotted rows cols cell.row cell.col down right result }
 {
-    if row + down < 1 {
-        return Spot::Off;
+    let row = (cell.row + down).checked_sub(1)?;
+    let col = (cell.col + right).checked_sub(1)?;
+    if rows <= row || cols <= col {
+        return None;
     }
-    if col + right < 1 {
-        return Spot::Off;
-    }
-    let r = row + down - 1;
-    let c = col + right - 1;
-    if rows <= r {
-        return Spot::Off;
-    }
-    if cols <= c {
-        return Spot::Off;
-    }
-    Spot::On { row: r, col: c }
+    Some(Cell { row, col })
 }
 
 // The cell that a cell flows to by the step of its code: none off the grid, and none where that cell is null.
-fn flows_by(rows: usize, cols: usize, codes: &[u8], row: usize, col: usize, by: Move) -> Spot
-    requires on_cell { OnCell rows cols codes.now row col }
-    requires leads_by { LeadsBy (get_or codes.now (row * cols + col) 0) by }
-    ensures { FlowsTo (grid_of rows cols codes.now) (row * cols + col) result }
+fn flows_by(grid: Grid, cell: Cell, by: Move) -> Option<Cell>
+    requires on_cell { On grid cell }
+    requires leads_by { LeadsBy (code_at grid cell) by }
+    ensures { FlowsTo (ground_of grid.entry) (number_in grid.entry cell) result }
 {
-    match spot_at(rows, cols, row, col, by.row, by.col) {
-        Spot::Off => Spot::Off,
-        Spot::On { row: r, col: c } => {
-            let to = r * cols + c;
-            if codes[to] == 0 {
-                return Spot::Off;
-            }
-            Spot::On { row: r, col: c }
-        }
+    let to = spot_at(grid.rows, grid.cols, cell, by.row, by.col)?;
+    if grid.codes[to.row * grid.cols + to.col] == 0 {
+        return None;
     }
+    Some(to)
 }
 
 // A walk: the cell where it is, and the length that it has come.
 #[derive(Clone, Copy)]
 pub struct Walk {
-    pub row: usize,
-    pub col: usize,
+    pub cell: Cell,
     pub length: Length,
 }
 
 impl Walk {
     // One step on. At its end the walk stays as it is.
-    pub fn step(self, rows: usize, cols: usize, codes: &[u8]) -> Walk
-        requires { OnGrid rows cols codes.now self }
-        ensures { WalkedOn (grid_of rows cols codes.now) self result }
+    pub fn step(self, grid: Grid) -> Walk
+        requires { OnGrid grid self }
+        ensures { WalkedOn grid.entry self result }
     {
-        let at = self.row * cols + self.col;
-        match lead_of(codes[at]) {
-            Lead::Nowhere => self,
-            Lead::By(m) => match flows_by(rows, cols, codes, self.row, self.col, m) {
-                Spot::Off => self,
-                Spot::On { row, col } => {
-                    let length = self.length;
-                    let step = m.step;
-                    let longer = length.plus(step);
-                    Walk {
-                        row,
-                        col,
-                        length: longer,
-                    }
-                }
-            },
+        let at = self.cell.row * grid.cols + self.cell.col;
+        let Some(m) = lead_of(grid.codes[at]) else {
+            return self;
+        };
+        let Some(cell) = flows_by(grid, self.cell, m) else {
+            return self;
+        };
+        Walk {
+            cell,
+            length: self.length.plus(m.step),
         }
     }
 }
 
-// A neighbour: the change of row and of column, each plus one, and the code that points back at the cell.
+// A neighbour: the change of row and of column, each plus one, and the code that points back at the cell. One type with
+// Move, generic in what is carried, would be no plainer: its last field would have no name that fits a step and a code.
 #[derive(Clone, Copy)]
 pub struct Neighbour {
     pub row: usize,
@@ -178,20 +145,14 @@ pub fn neighbour_at(k: usize) -> Neighbour
 }
 
 // Neighbour k of a cell, if it is on the grid and flows in.
-pub fn inflow_from(rows: usize, cols: usize, codes: &[u8], row: usize, col: usize, k: usize) -> Spot
-    requires { OnCell rows cols codes.now row col }
-    ensures { FlowsFrom rows cols codes.now row col k result }
+pub fn inflow_from(grid: Grid, cell: Cell, k: usize) -> Option<Cell>
+    requires { On grid cell }
+    ensures { FlowsIn grid.entry cell k result }
 {
     let n = neighbour_at(k);
-    match spot_at(rows, cols, row, col, n.row, n.col) {
-        Spot::Off => Spot::Off,
-        Spot::On { row: r, col: c } => {
-            let at = r * cols + c;
-            let back = n.back;
-            if codes[at] != back {
-                return Spot::Off;
-            }
-            Spot::On { row: r, col: c }
-        }
+    let beside = spot_at(grid.rows, grid.cols, cell, n.row, n.col)?;
+    if grid.codes[beside.row * grid.cols + beside.col] != n.back {
+        return None;
     }
+    Some(beside)
 }

@@ -1,11 +1,27 @@
--- The words of the lent subaccumulation grid while a tracing is at work: a cell's subaccumulation, at most 2²⁴, and above
--- it three notes, that the cell is an outlet (2²⁹), enclosed by its subwatershed (2³⁰), inside the one at hand (2³¹). An
--- enclosed cell is one of a subwatershed and not on its divide.
+-- The editions by their numbers; and the words of the lent subaccumulation grid while a tracing is at work: a cell's
+-- subaccumulation, at most 2²⁴, and above it three notes, that the cell is an outlet (2²⁹), enclosed by its subwatershed
+-- (2³⁰), inside the one at hand (2³¹). An enclosed cell is one of a subwatershed and not on its divide.
 -- Assumes nothing.
-use Rattle.std.specs.Prelude.{◌≡◌, Bool, cond, List, ℕ, ◌+◌, ◌*◌, ◌/◌, ◌%◌, ◌≤◌, ◌<◌, ◌^◌, length, get_or, eqb, ltb}
+use Rattle.std.specs.Prelude.{◌≡◌, Bool, true, false, cond, Result, MatchResult, List, ℕ, ◌+◌, ◌*◌, ◌/◌, ◌%◌, ◌≤◌, ◌<◌}
+use Rattle.std.specs.Prelude.{◌^◌, length, get_or, eqb, ltb}
+use Rattle.search.specs.Editions.{is_edition}
+use Rattle.answers.specs.declared.Refusal.{Refusal}
+use Rattle.answers.specs.Refusals.{refusal_number}
+use Rattle.notes.specs.declared.Edition.{Edition}
+use Rattle.notes.specs.declared.Edition.TheVariants.{First, Second}
 use Rattle.lists.specs.Lists.{member}
 use Rattle.ground.specs.Grid.{Grid, cell_count}
 use Rattle.ground.specs.Accumulation.{subaccumulation}
+
+-- the number of an edition
+abbrev pub edition_number : Edition → ℕ
+edition_number First = 1
+edition_number Second = 2
+
+-- the edition of a number, and where there is none the refusal by 25
+abbrev pub OfNumber : ℕ → Result Edition Refusal → Type 0
+OfNumber number r = MatchResult r (λ edition. (is_edition number ≡ true) × (edition_number edition ≡ number))
+    (λ refusal. (is_edition number ≡ false) × (refusal_number refusal ≡ 25))
 
 -- the subaccumulation that a word holds
 abbrev pub cells_held : ℕ → ℕ

@@ -1,16 +1,32 @@
-// The number of an edition, and the words of the lent subaccumulation grid while a tracing is at work: a cell's
+// The editions, and the words of the lent subaccumulation grid while a tracing is at work: a cell's
 // subaccumulation, at most 2^24, and above it three notes.
 #![tactic(auto)]
 
 ghost use Rattle.std.specs.Prelude.{◌≡◌};
-ghost use Rattle.search.specs.Editions.{is_edition};
-ghost use Rattle.notes.specs.Notes.{cells_held, met_by};
+ghost use Rattle.notes.specs.Notes.{cells_held, edition_number, met_by, OfNumber};
 
-// Is it the number of an edition?
-pub fn is_edition(edition: u32) -> bool
-    ensures { result ≡ is_edition edition }
-{
-    edition == 1 || edition == 2
+use answers::Refusal;
+
+// An edition of the standard.
+#[derive(Clone, Copy, PartialEq, Eq)]
+pub enum Edition {
+    First,
+    Second,
+}
+
+// By its number; another number is refused.
+impl TryFrom<u32> for Edition {
+    type Error = Refusal;
+
+    ghost try_from_gives = { OfNumber };
+
+    fn try_from(number: u32) -> Result<Self, Refusal> {
+        match number {
+            1 => Ok(Edition::First),
+            2 => Ok(Edition::Second),
+            _ => Err(Refusal::Edition),
+        }
+    }
 }
 
 // The cell is an outlet.
@@ -31,12 +47,12 @@ pub fn cells_held(word: u32) -> u32
 
 // Is a length met at a cell with this word? By edition 1, without notes, at a headwater, by edition 2 where the cell is
 // not enclosed.
-pub fn is_met(edition: u32, word: u32) -> bool
-    ensures { result ≡ met_by edition word }
+pub fn is_met(edition: Edition, word: u32) -> bool
+    ensures { result ≡ met_by (edition_number edition) word }
 {
-    let mut end: u32 = 2;
-    if edition == 2 {
-        end = ENCLOSED;
-    }
+    let end = match edition {
+        Edition::First => 2,
+        Edition::Second => ENCLOSED,
+    };
     word < end
 }

@@ -3,45 +3,45 @@
 #![tactic(auto)]
 
 ghost use Rattle.std.specs.Prelude.{◌≤◌, length};
-ghost use Rattle.noting.specs.Noting.{Fresh, Places, Readied, Unnoted};
+ghost use Rattle.notes.specs.Notes.{edition_number};
+ghost use Rattle.noting.specs.Noting.{Unnoted};
+ghost use Rattle.noting.specs.Grids.{Fresh, Places, Readied};
 
 use divide::{clear_notes, note_enclosed, note_outlets};
+use moves::Grid;
+use notes::Edition;
 
 // Makes the grid ready for the searches of the outlets from one place of the list to before another. Their cells are
 // listed in the working space.
 pub fn make_ready(
-    edition: u32,
-    rows: usize,
-    cols: usize,
-    codes: &[u8],
+    edition: Edition,
+    grid: Grid,
     outlets: &[u32],
     first: usize,
     end: usize,
     subaccumulation: &mut [u32],
     list: &mut [u32],
 )
-    requires fresh { Fresh rows cols codes.now outlets.now subaccumulation.old }
-    requires places { Places rows cols codes.now outlets.now first end list.old }
-    ensures { Readied edition rows cols codes.now outlets.now first end
-        subaccumulation.old list.old subaccumulation.new list.new }
+    requires fresh { Fresh grid outlets.now subaccumulation.old }
+    requires places { Places grid outlets.now first end list.old }
+    ensures { Readied edition grid.entry outlets.now first end subaccumulation.old list.old
+        subaccumulation.new list.new }
 {
-    if edition != 2 {
+    if edition == Edition::First {
         return;
     }
-    note_outlets(rows * cols, outlets, subaccumulation);
-    let mut j = first;
-    while j < end {
-        note_enclosed(rows, cols, codes, outlets, j, subaccumulation, list);
-        j += 1;
+    note_outlets(grid.rows * grid.cols, outlets, subaccumulation);
+    for j in first..end {
+        note_enclosed(grid, outlets, j, subaccumulation, list);
     }
 }
 
 // Takes the notes of the first n words away.
-pub fn make_plain(edition: u32, n: usize, subaccumulation: &mut [u32])
+pub fn make_plain(edition: Edition, n: usize, subaccumulation: &mut [u32])
     requires { n ≤ length subaccumulation.old }
-    ensures { Unnoted edition n subaccumulation.old subaccumulation.new }
+    ensures { Unnoted (edition_number edition) n subaccumulation.old subaccumulation.new }
 {
-    if edition == 2 {
+    if edition == Edition::Second {
         clear_notes(n, subaccumulation);
     }
 }

@@ -4,12 +4,11 @@
 
 ghost use Rattle.std.specs.Prelude.{◌≤◌, ◌^◌, length};
 ghost use Rattle.lists.specs.Lists.{sum_of};
-ghost use Rattle.ground.specs.Grid.{grid_of};
-ghost use Rattle.alloutlets.specs.AllOutlets.{path_counts};
-ghost use Rattle.passes.specs.Passes.{Searchable, CountsAll, ListsAll};
+ghost use Rattle.passes.specs.Grids.{path_counts, Searchable, CountsAll, ListsAll};
 
-use lists::index_of;
+use notes::Edition;
 use tracing::{list_at, search_at};
+use upstream::FilledGrid;
 
 // The longest paths, the cells visited and the cells dropped, over the outlets searched.
 #[derive(Clone, Copy)]
@@ -20,85 +19,44 @@ pub struct Sums {
 }
 
 // Searches each outlet, and adds up what it finds.
-pub fn count_all(
-    edition: u32,
-    rows: usize,
-    cols: usize,
-    codes: &[u8],
-    outlets: &[u32],
-    subaccumulation: &[u32],
-    work: &mut [u32],
-) -> Sums
-    requires { Searchable edition rows cols codes.now outlets.now subaccumulation.now work.old }
-    ensures { CountsAll edition (grid_of rows cols codes.now) outlets.now
-        work.old result work.new }
+pub fn count_all(filled: FilledGrid, edition: Edition, work: &mut [u32]) -> Sums
+    requires { Searchable edition filled work.old }
+    ensures { CountsAll edition filled.entry work.old result work.new }
 {
     let mut s = Sums {
         paths: 0,
         visited: 0,
         dropped: 0,
     };
-    let mut place: usize = 0;
-    while place < outlets.len() {
-        let p = search_at(
-            edition,
-            rows,
-            cols,
-            codes,
-            outlets,
-            subaccumulation,
-            true,
-            place,
-            work,
-        );
+    for place in 0..filled.outlets.len() {
+        let p = search_at(filled, edition, true, place, work);
         s = Sums {
             paths: s.paths + p.paths,
             visited: s.visited + p.visited,
             dropped: s.dropped + p.dropped,
         };
-        place += 1;
     }
     s
 }
 
 // Searches each outlet once more, and writes its starts after those before it, and their count.
 pub fn list_all(
-    edition: u32,
-    rows: usize,
-    cols: usize,
-    codes: &[u8],
-    outlets: &[u32],
-    subaccumulation: &[u32],
+    filled: FilledGrid,
+    edition: Edition,
     starts: &mut [u32],
     counts: &mut [u32],
     work: &mut [u32],
 )
-    requires searchable { Searchable edition rows cols codes.now outlets.now subaccumulation.now work.old }
-    requires outlets_in_bounds { (sum_of (path_counts edition (grid_of rows cols codes.now) outlets.now) ≤ length starts.old)
-        × (sum_of (path_counts edition (grid_of rows cols codes.now) outlets.now) ≤ 2 ^ 24)
-        × (length outlets.now ≤ length counts.old) }
-    ensures { ListsAll edition (grid_of rows cols codes.now) outlets.now
-        starts.old counts.old work.old starts.new counts.new
-        work.new }
+    requires searchable { Searchable edition filled work.old }
+    requires outlets_in_bounds { (sum_of (path_counts edition filled) ≤ length starts.old)
+        × (sum_of (path_counts edition filled) ≤ 2 ^ 24) × (length filled.outlets.now ≤ length counts.old) }
+    ensures { ListsAll edition filled.entry starts.old counts.old work.old starts.new counts.new work.new }
 {
-    let mut total: u32 = 0;
-    let mut j: usize = 0;
-    while j < outlets.len() {
-        let from = index_of(total);
-        let p = list_at(
-            edition,
-            rows,
-            cols,
-            codes,
-            outlets,
-            subaccumulation,
-            true,
-            j,
-            &mut starts[from..],
-            work,
-        );
+    let mut total = 0;
+    for j in 0..filled.outlets.len() {
+        let from = total as usize;
+        let p = list_at(filled, edition, true, j, &mut starts[from..], work);
         counts[j] = p.paths;
         total += p.paths;
-        j += 1;
     }
 }

@@ -12,8 +12,8 @@ use lib.Seq.{get_or-set_same, get_or-set_other}
 use lib.Dec.{eqb}
 use borrow.Author.Tests.{ne_eqb}
 use Rattle.lengths.specs.declared.Length.{Length}
-use Rattle.lengths.specs.declared.Order.{Order}
-use Rattle.lengths.specs.declared.Order.TheVariants.{Shorter, Same, Longer}
+use Rattle.std.specs.declared.cmp.Ordering.{Ordering}
+use Rattle.std.specs.declared.cmp.Ordering.TheVariants.{Less, Equal, Greater}
 use Rattle.lengths.specs.Rule.{compared, says_shorter, is_shorter}
 use Rattle.lengths.proofs.Ordered.{opposite, compared_back, same_counts}
 use Rattle.ground.specs.Compass.{squares}
@@ -57,11 +57,11 @@ kept_length l end (suc k) = omega (
 
 -- ---- a length compared
 
-shorter_says : (l m : Length) (o : Order) → compared l m ≡ o → is_shorter l m ≡ says_shorter o
+shorter_says : (l m : Length) (o : Ordering) → compared l m ≡ o → is_shorter l m ≡ says_shorter o
 unfolding is_shorter
 shorter_says l m o e = ap says_shorter e
 
-back_says : (l m : Length) (o : Order) → compared l m ≡ o → is_shorter m l ≡ says_shorter (opposite o)
+back_says : (l m : Length) (o : Ordering) → compared l m ≡ o → is_shorter m l ≡ says_shorter (opposite o)
 back_says l m o e = shorter_says m l (opposite o) (compared_back l m ∙ ap opposite e)
 
 -- ---- a length met among starts of one length
@@ -71,22 +71,22 @@ map_snoc : (l : Length) (cs : List ℕ) (c : ℕ)
 map_snoc l cs c = map-append (start_at l) cs (c ∷ [])
 
 module _ (g : Length) (cs : List ℕ) (some_start : 0 < length cs) (l : Length) (c : ℕ) where
-  pub met_shorter : compared l g ≡ Shorter → meet squares (map (start_at g) cs) (start_at l c) ≡ map (start_at g) cs
+  pub met_shorter : compared l g ≡ Less → meet squares (map (start_at g) cs) (start_at l c) ≡ map (start_at g) cs
   met_shorter e = go cs some_start
     where
       go : (ds : List ℕ) → 0 < length ds → meet squares (map (start_at g) ds) (start_at l c) ≡ map (start_at g) ds
       go [] h = absurd (omega arith)
-      go (d ∷ ds) h = meet_shorter squares (start_at g d) (map (start_at g) ds) (start_at l c) (shorter_says l g Shorter e)
+      go (d ∷ ds) h = meet_shorter squares (start_at g d) (map (start_at g) ds) (start_at l c) (shorter_says l g Less e)
 
-  pub met_longer : compared l g ≡ Longer → meet squares (map (start_at g) cs) (start_at l c) ≡ start_at l c ∷ []
+  pub met_longer : compared l g ≡ Greater → meet squares (map (start_at g) cs) (start_at l c) ≡ start_at l c ∷ []
   met_longer e = go cs some_start
     where
       go : (ds : List ℕ) → 0 < length ds → meet squares (map (start_at g) ds) (start_at l c) ≡ start_at l c ∷ []
       go [] h = absurd (omega arith)
-      go (d ∷ ds) h = meet_longer squares (start_at g d) (map (start_at g) ds) (start_at l c) (shorter_says l g Longer e)
-          (back_says l g Longer e)
+      go (d ∷ ds) h = meet_longer squares (start_at g d) (map (start_at g) ds) (start_at l c) (shorter_says l g Greater e)
+          (back_says l g Greater e)
 
-  pub met_same : compared l g ≡ Same → meet squares (map (start_at g) cs) (start_at l c)
+  pub met_same : compared l g ≡ Equal → meet squares (map (start_at g) cs) (start_at l c)
       ≡ map (start_at g) (cs ++ (c ∷ []))
   met_same e = go cs some_start ∙ ap (λ (k : Length). map (start_at g) cs ++ (start_at k c ∷ [])) (same_counts l g e)
       ∙ sym (map_snoc g cs c)
@@ -94,8 +94,8 @@ module _ (g : Length) (cs : List ℕ) (some_start : 0 < length cs) (l : Length) 
       go : (ds : List ℕ) → 0 < length ds → meet squares (map (start_at g) ds) (start_at l c) ≡ map (start_at g) ds
           ++ (start_at l c ∷ [])
       go [] h = absurd (omega arith)
-      go (d ∷ ds) h = meet_tie squares (start_at g d) (map (start_at g) ds) (start_at l c) (shorter_says l g Same e)
-          (back_says l g Same e)
+      go (d ∷ ds) h = meet_tie squares (start_at g d) (map (start_at g) ds) (start_at l c) (shorter_says l g Equal e)
+          (back_says l g Equal e)
 
 -- ---- what the functions promise
 
@@ -183,19 +183,8 @@ visited_past old end cell met len p e = record {
 
 -- ---- the drop test
 
+-- what an engine holds, and the starts that it holds, say the same
 module _ (limit : Length) (p : Progress) where
-  -- before a length is met, nothing is below it
-  pub none_met : p.paths ≡ 0 → is_below limit p ≡ false
-  unfolding is_below
-  none_met e = rw e
-
-  -- else the limit is compared with the greatest length
-  pub limit_says : (p.paths ≡ 0 → ⊥) → (o : Order) → compared limit p.greatest ≡ o
-      → is_below limit p ≡ says_shorter o
-  unfolding is_below
-  limit_says h o k = rw (ne_eqb p.paths 0 h) (shorter_says limit p.greatest o k)
-
-  -- the starts that an engine holds say the same
   pub below_starts : (work : List ℕ) (end : ℕ) → is_below limit p ≡ below_greatest squares (starts_of p work end) limit
   unfolding is_below
   below_starts work end = go (kept work end p.paths) (kept_length work end p.paths)

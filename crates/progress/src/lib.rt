@@ -5,8 +5,8 @@ ghost use Rattle.std.specs.Prelude.{◌≡◌, ◌&&◌, ◌+◌, ◌-◌, ◌�
 ghost use Rattle.lengths.specs.Lengths.{square_cells, farthest};
 ghost use Rattle.progress.specs.Starts.{progress_of, begun, is_below, Room, Met, Visited};
 
-use lengths::{Length, Order};
-use lists::index_of;
+use lengths::Length;
+use std::cmp::Ordering;
 
 // The greatest length met and how many starts have it, the cells visited and the cells dropped. The starts themselves
 // stand in a slice, before an end: the first next to it, the others further down.
@@ -40,8 +40,7 @@ fn restart(work: &mut [u32], end: usize, cell: u32, len: Length, p: Progress) ->
     Progress {
         greatest: len,
         paths: 1,
-        visited: p.visited,
-        dropped: p.dropped,
+        ..p
     }
 }
 
@@ -52,14 +51,8 @@ fn join(work: &mut [u32], end: usize, cell: u32, p: Progress) -> Progress
         × (work.new ≡ set work.old (end - (p.paths + 1)) cell) }
 {
     let paths = p.paths + 1;
-    work[end - index_of(paths)] = cell;
-    let greatest = p.greatest;
-    Progress {
-        greatest,
-        paths,
-        visited: p.visited,
-        dropped: p.dropped,
-    }
+    work[end - paths as usize] = cell;
+    Progress { paths, ..p }
 }
 
 // A length is met: a shorter one than the greatest is forgotten, a longer one takes its place, a tie joins it.
@@ -70,11 +63,10 @@ fn meet(work: &mut [u32], end: usize, cell: u32, len: Length, p: Progress) -> Pr
     if p.paths == 0 {
         return restart(work, end, cell, len, p);
     }
-    let greatest = p.greatest;
-    match len.compare(greatest) {
-        Order::Shorter => p,
-        Order::Longer => restart(work, end, cell, len, p),
-        Order::Same => join(work, end, cell, p),
+    match len.compare(p.greatest) {
+        Ordering::Less => p,
+        Ordering::Greater => restart(work, end, cell, len, p),
+        Ordering::Equal => join(work, end, cell, p),
     }
 }
 
@@ -90,17 +82,14 @@ pub fn visit(
     requires { Room work.old end p × (p.visited < 2 ^ 24) }
     ensures { Visited work.old work.new end cell met len p result }
 {
-    let greatest = p.greatest;
-    let q = Progress {
-        greatest,
-        paths: p.paths,
+    let counted = Progress {
         visited: p.visited + 1,
-        dropped: p.dropped,
+        ..p
     };
     if met {
-        return meet(work, end, cell, len, q);
+        return meet(work, end, cell, len, counted);
     }
-    q
+    counted
 }
 
 // A neighbour is dropped with its n cells.
@@ -108,31 +97,18 @@ pub fn drop_cells(p: Progress, n: u32) -> Progress
     requires { p.dropped + n ≤ 2 ^ 24 }
     ensures { result ≡ progress_of p.greatest p.paths p.visited (p.dropped + n) }
 {
-    let greatest = p.greatest;
     Progress {
-        greatest,
-        paths: p.paths,
-        visited: p.visited,
         dropped: p.dropped + n,
+        ..p
     }
 }
 
 // Is a neighbour with n cells, itself at this length, to be dropped? Exactly if its length and n - 1 diagonal steps are
 // shorter than the greatest length met: not before one is met, and not at a tie.
+#[tactic(auto, unfolding(crate::specs::Starts::is_below, lengths::specs::Rule::is_shorter))]
 pub fn is_dropped(dropping: bool, len: Length, n: u32, p: Progress) -> bool
     requires { (len.diagonal ≤ 2 ^ 24) × (0 < n) × (n ≤ 2 ^ 24) }
     ensures { result ≡ (dropping && is_below (farthest square_cells len (n - 1)) p) }
 {
-    if !dropping {
-        return false;
-    }
-    if p.paths == 0 {
-        return false;
-    }
-    let greatest = p.greatest;
-    match len.farthest(n - 1).compare(greatest) {
-        Order::Shorter => true,
-        Order::Same => false,
-        Order::Longer => false,
-    }
+    dropping && p.paths != 0 && len.farthest(n - 1).compare(p.greatest).is_lt()
 }

@@ -7,12 +7,14 @@ use Prim.Native.Nat.{ℕ, suc, ◌*◌, ◌≤◌, ◌<◌}
 use native.Mathlib.Omega.{arith}
 use lib.ListN.{drop}
 use borrow.Author.Tests.{ne_eqb, le-leb, lt-leb}
+use Rattle.answers.specs.declared.Refusal.{Refusal}
+use Rattle.answers.specs.Refusals.{refusal_number}
 use Rattle.answers.specs.Checks.{first_failed}
-use Rattle.spelling.specs.declared.Sheet.{Sheet}
+use Rattle.answers.proofs.Refusals.{has_number}
 use Rattle.spelling.specs.Reading.{is_header, are_sheet_sides, file_rows, file_cols, after_rows, rows_checks, outlet_count}
-use Rattle.spelling.specs.Reading.{sheet_refused, read_number, read_answer}
+use Rattle.spelling.specs.Reading.{SheetTold, sheet_refused, read_number, read_answer}
 use Rattle.spelling.proofs.Accepted.{outlets_long}
-use Rattle.reading.specs.Steps.{Refuses, records_answer}
+use Rattle.reading.specs.Steps.{records_answer}
 
 -- ---- after the header
 
@@ -20,12 +22,13 @@ module _ (file : List ℕ) (rows cols : ℕ) where
   abbrev number : ℕ
   number = first_failed (rows_checks rows cols 0 rows (drop 6 file))
 
-  pub records_refused : (k : ℕ) → Refuses number k → sheet_refused k ≡ records_answer file rows cols
+  pub records_refused : (refusal : Refusal) → number ≡ refusal_number refusal
+      → sheet_refused (refusal_number refusal) ≡ records_answer file rows cols
   unfolding records_answer
-  records_refused k r = rw (r.first, ne_eqb k 0 r.some)
+  records_refused refusal r = rw (r, ne_eqb (refusal_number refusal) 0 (has_number refusal))
 
   pub records_read : (n : ℕ) → number ≡ 0 → n ≡ outlet_count 257 (after_rows rows cols file)
-      → ◌≡◌ {A = Sheet} (record { number = 0; rows = rows; cols = cols; outlets = n }) (records_answer file rows cols)
+      → ◌≡◌ {A = SheetTold} (record { number = 0; rows = rows; cols = cols; outlets = n }) (records_answer file rows cols)
   unfolding records_answer
   records_read n e q = rw (e, q)
 

@@ -15,10 +15,7 @@ use Rattle.spelling.specs.Format.{mark, row_mark}
 use Rattle.spelling.specs.Reading.{number_at, is_record, is_outlet, is_end, row_codes, row_checks, tail_checks}
 use Rattle.spelling.proofs.Records.{all_first, record_is}
 use Rattle.reading.specs.declared.Cursor.{Cursor}
-use Rattle.reading.specs.Steps.{Refuses, Passes, Ends, OutletPasses}
-
-refuses : (number k : ℕ) → number ≡ suc k → Refuses number (suc k)
-refuses number k e = record { first = e; some = λ z. omega arith }
+use Rattle.reading.specs.Steps.{Passes, Ends, OutletPasses}
 
 -- a whole record ends within the file
 pub record_fits : (file : List ℕ) (at size first second : ℕ)
@@ -52,21 +49,21 @@ part_codes file cols at h =
 
 module _ (file : List ℕ) (cols row at : ℕ) where
   abbrev row_refuses : ℕ → Type 0
-  row_refuses k = (later : List Check) → Refuses (first_failed (row_checks cols row (drop at file) ++ later)) k
+  row_refuses k = (later : List Check) → first_failed (row_checks cols row (drop at file) ++ later) ≡ k
 
   pub no_row : is_record row_mark (4 + cols) (drop at file) ≡ false → row_refuses 4
   unfolding first_failed
-  no_row e later = refuses _ 3 (rw e)
+  no_row e later = rw e
 
   module _ (whole : is_record row_mark (4 + cols) (drop at file) ≡ true) where
     pub other_row : (number_at 2 (drop at file) ≡ row → ⊥) → row_refuses 4
     unfolding first_failed
-    other_row f later = refuses _ 3 (rw (whole, ne_eqb (number_at 2 (drop at file)) row f))
+    other_row f later = rw (whole, ne_eqb (number_at 2 (drop at file)) row f)
 
     module _ (number : number_at 2 (drop at file) ≡ row) where
       pub other_code : all_pass (is_code table1) (row_codes cols (drop at file)) ≡ false → row_refuses 5
       unfolding first_failed
-      other_code e later = refuses _ 4 (rw (whole, eq-eqb (number_at 2 (drop at file)) row number, e))
+      other_code e later = rw (whole, eq-eqb (number_at 2 (drop at file)) row number, e)
 
       pub row_passes : all_pass (is_code table1) (row_codes cols (drop at file)) ≡ true → at ≤ length file → (next : Cursor)
           → next.at ≡ at + 4 + cols → Passes file (row_checks cols row (drop at file)) (4 + cols) at next
@@ -84,21 +81,21 @@ ends file at e l = record { end_is = e; over = length-drop at file ∙ l }
 
 module _ (file : List ℕ) (rows cols at : ℕ) where
   abbrev tail_refuses : ℕ → Type 0
-  tail_refuses k = (n : ℕ) → Refuses (first_failed (tail_checks rows cols (suc n) (drop at file))) k
+  tail_refuses k = (n : ℕ) → first_failed (tail_checks rows cols (suc n) (drop at file)) ≡ k
 
   pub more_after_end : is_end (drop at file) ≡ true → (length file - at ≡ 2 → ⊥) → tail_refuses 9
   unfolding first_failed tail_checks
-  more_after_end e f n = refuses _ 8 (rw (e, length-drop at file, ne_eqb (length file - at) 2 f))
+  more_after_end e f n = rw (e, length-drop at file, ne_eqb (length file - at) 2 f)
 
   module _ (e : is_end (drop at file) ≡ false) where
     pub not_outlet : is_outlet (drop at file) ≡ false → tail_refuses 6
     unfolding first_failed tail_checks
-    not_outlet f n = refuses _ 5 (rw (e, f))
+    not_outlet f n = rw (e, f)
 
     module _ (o : is_outlet (drop at file) ≡ true) where
       pub beyond_rows : rows ≤ number_at 2 (drop at file) → tail_refuses 7
       unfolding first_failed tail_checks
-      beyond_rows h n = refuses _ 6 (rw (e, o, le-ltb (number_at 2 (drop at file)) rows h))
+      beyond_rows h n = rw (e, o, le-ltb (number_at 2 (drop at file)) rows h)
 
       module _ (h : number_at 2 (drop at file) < rows) where
         pub beyond_cols : cols ≤ number_at 4 (drop at file) → tail_refuses 7
@@ -106,7 +103,7 @@ module _ (file : List ℕ) (rows cols at : ℕ) where
         beyond_cols k n =
             let row = number_at 2 (drop at file) in
             let col = number_at 4 (drop at file) in
-            refuses _ 6 (rw (e, o, lt-ltb row rows h, le-ltb col cols k))
+            rw (e, o, lt-ltb row rows h, le-ltb col cols k)
 
         pub outlet_passes : number_at 4 (drop at file) < cols → at ≤ length file → (next : Cursor) → next.at ≡ at + 6
             → OutletPasses file rows cols at next

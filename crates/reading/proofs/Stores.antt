@@ -6,9 +6,9 @@ use Prim.Native.Nat.{ℕ, zero, suc, ◌+◌, ◌-◌, ◌*◌, ◌≤◌, ◌<�
 use native.Mathlib.Numerals.{add-one}
 use native.Mathlib.Omega.{arith}
 use lib.ListN.{length, take, drop, set}
-use lib.Seq.{sets, drop-drop}
+use lib.Seq.{sets, drop-drop, take_all}
 use Rattle.spelling.specs.Reading.{number_at, row_codes, codes_from, outlets_from}
-use Rattle.lists.proofs.Overlaid.{sets_after}
+use Rattle.lists.proofs.Overlaid.{sets_after, sets_overlaid, overlaid_short}
 use Rattle.reading.proofs.Steps.{part_row, part_length}
 
 -- ---- codes, of n rows from a place on
@@ -46,3 +46,8 @@ module _ (l file : List ℕ) (cols k at : ℕ) where
   pub outlets_stored : (n : ℕ) → n ≡ 0 → l ≡ sets l k (outlets_from cols n (drop at file))
   unfolding outlets_from
   outlets_stored n e = rw e
+
+-- as many as there are places
+pub whole_stored : (l new : List ℕ) → length l ≡ length new → sets l 0 new ≡ new
+whole_stored l new e =
+    sets_overlaid l new (omega arith) ∙ overlaid_short new l (omega arith) ∙ take_all (length l) new (omega arith)

@@ -10,7 +10,7 @@ use borrow.Author.Tests.{eq-eqb}
 use Rattle.answers.specs.Checks.{Check, first_failed}
 use Rattle.spelling.specs.Reading.{row_checks, rows_checks, tail_checks, outlet_count}
 use Rattle.reading.specs.declared.Cursor.{Cursor}
-use Rattle.reading.specs.Steps.{Refuses, Passes, Ends, OutletPasses, TailPasses}
+use Rattle.reading.specs.Steps.{Passes, Ends, OutletPasses, TailPasses}
 
 -- a record that passes leads to the rest of the file
 after : (file : List ℕ) (size at : ℕ) (next : Cursor) → next.at ≡ at + size
@@ -31,8 +31,8 @@ module _ (file : List ℕ) (rows cols row at : ℕ) where
       (p.on (rows_checks rows cols (row + 1) n (drop (4 + cols) (drop at file))))
 
   pub rows_stop : (n k : ℕ) → 0 < n
-      → ((later : List Check) → Refuses (first_failed (row_checks cols row (drop at file) ++ later)) k)
-      → Refuses (first_failed (rows_checks rows cols row n (drop at file))) k
+      → ((later : List Check) → first_failed (row_checks cols row (drop at file) ++ later) ≡ k)
+      → first_failed (rows_checks rows cols row n (drop at file)) ≡ k
   unfolding rows_checks
   rows_stop zero k h r = absurd (omega arith)
   rows_stop (suc n) k h r = r (rows_checks rows cols (row + 1) n (drop (4 + cols) (drop at file)))
@@ -67,8 +67,8 @@ module _ (file : List ℕ) (rows cols at : ℕ) where
   tail_ends (suc n) h t =
       record { number = rw (t.end_is, eq-eqb (length (drop at file)) 2 t.over); counted = rw t.end_is }
 
-  pub tail_stop : (n k : ℕ) → 0 < n → ((m : ℕ) → Refuses (first_failed (tail_checks rows cols (suc m) (drop at file))) k)
-      → Refuses (first_failed (tail_checks rows cols n (drop at file))) k
+  pub tail_stop : (n k : ℕ) → 0 < n → ((m : ℕ) → first_failed (tail_checks rows cols (suc m) (drop at file)) ≡ k)
+      → first_failed (tail_checks rows cols n (drop at file)) ≡ k
   tail_stop zero k h r = absurd (omega arith)
   tail_stop (suc n) k h r = r n
 

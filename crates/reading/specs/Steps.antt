@@ -1,27 +1,18 @@
 -- What the steps through a file answer: each by the checks that are left from its place on.
 -- Assumes nothing.
-use Rattle.std.specs.Prelude.{◌≡◌, true, false, cond, List, ◌++◌, ℕ, suc, ◌+◌, ◌*◌, ◌≤◌, ◌<◌, length, drop, eqb}
+use Rattle.std.specs.Prelude.{◌≡◌, true, false, cond, Option, Some, None, Result, Ok, Err}
+use Rattle.std.specs.Prelude.{List, ◌++◌, ℕ, suc, ◌+◌, ◌*◌, ◌≤◌, ◌<◌, length, drop, eqb}
+use Rattle.answers.specs.declared.Refusal.{Refusal}
+use Rattle.answers.specs.Refusals.{refusal_number}
 use Rattle.answers.specs.Checks.{Check, first_failed}
-use Rattle.spelling.specs.declared.Sheet.{Sheet}
 use Rattle.spelling.specs.Reading.{is_end, row_checks, outlet_checks, rows_checks, tail_checks, outlet_count, after_rows}
-use Rattle.spelling.specs.Reading.{number_at, sheet_refused}
+use Rattle.spelling.specs.Reading.{number_at, SheetTold, sheet_refused}
 use Rattle.reading.specs.declared.Cursor.{Cursor}
-use Rattle.reading.specs.declared.Step.{Step}
-use Rattle.reading.specs.declared.Step.TheVariants as step
-use Rattle.reading.specs.declared.Found.{Found}
-use Rattle.reading.specs.declared.Found.TheVariants as found
-use Rattle.reading.specs.declared.Tail.{Tail}
-use Rattle.reading.specs.declared.Tail.TheVariants as tail
 
 -- the number that begins so many bytes from here, and that it is one of two bytes
 pub record NumberIs (skip : ℕ) (rest : List ℕ) (r : ℕ) : Type 0 where
   pub same : r ≡ number_at skip rest
   pub small : r < 65536
-
--- the number of the checks is k, and that is a refusal
-pub record Refuses (number k : ℕ) : Type 0 where
-  pub first : number ≡ k
-  pub some : k ≡ 0 → ⊥
 
 -- a record passes its checks, and ends within the file: what follows it gives the number
 pub record Passes (file : List ℕ) (checks : List Check) (size at : ℕ) (next : Cursor) : Type 0 where
@@ -31,10 +22,11 @@ pub record Passes (file : List ℕ) (checks : List Check) (size at : ℕ) (next 
 
 module _ (file : List ℕ) where
   -- a row
-  abbrev pub row_says : ℕ → ℕ → ℕ → Step → Type 0
-  row_says cols row at (step.Next next) = Passes file (row_checks cols row (drop at file)) (4 + cols) at next
-  row_says cols row at (step.Refused k) =
-      (later : List Check) → Refuses (first_failed (row_checks cols row (drop at file) ++ later)) k
+  abbrev pub row_says : ℕ → ℕ → ℕ → Result Cursor Refusal → Type 0
+  row_says cols row at (Ok next) = Passes file (row_checks cols row (drop at file)) (4 + cols) at next
+  row_says cols row at (Err refusal) =
+      (later : List Check)
+      → first_failed (row_checks cols row (drop at file) ++ later) ≡ refusal_number refusal
 
   -- the end record, and nothing after it
   pub record Ends (at : ℕ) : Type 0 where
@@ -49,31 +41,32 @@ module _ (file : List ℕ) where
       pub on : first_failed (rows_checks rows cols 0 rows (drop 6 file))
           ≡ first_failed (tail_checks rows cols 257 (after_rows rows cols file))
 
-    abbrev pub rows_say : Step → Type 0
-    rows_say (step.Next next) = RowsPass next
-    rows_say (step.Refused k) = Refuses (first_failed (rows_checks rows cols 0 rows (drop 6 file))) k
+    abbrev pub rows_say : Result Cursor Refusal → Type 0
+    rows_say (Ok next) = RowsPass next
+    rows_say (Err refusal) = first_failed (rows_checks rows cols 0 rows (drop 6 file)) ≡ refusal_number refusal
 
     -- a record after the rows
     pub record OutletPasses (at : ℕ) (next : Cursor) : Type 0 where
       pub no_end : is_end (drop at file) ≡ false
       pub passes : Passes file (outlet_checks rows cols (drop at file)) 6 at next
 
-    abbrev pub record_says : ℕ → Found → Type 0
-    record_says at (found.Outlet next) = OutletPasses at next
-    record_says at found.End = Ends at
-    record_says at (found.Refused k) = (n : ℕ) → Refuses (first_failed (tail_checks rows cols (suc n) (drop at file))) k
+    abbrev pub record_says : ℕ → Result (Option Cursor) Refusal → Type 0
+    record_says at (Ok (Some next)) = OutletPasses at next
+    record_says at (Ok None) = Ends at
+    record_says at (Err refusal) =
+        (n : ℕ) → first_failed (tail_checks rows cols (suc n) (drop at file)) ≡ refusal_number refusal
 
     -- the next n records after the rows: they pass, and so many of them are outlets
     pub record TailPasses (n at count : ℕ) : Type 0 where
       pub number : first_failed (tail_checks rows cols n (drop at file)) ≡ 0
       pub counted : count ≡ outlet_count n (drop at file)
 
-    abbrev pub tail_says : ℕ → Tail → Type 0
-    tail_says at (tail.Outlets count) = TailPasses 257 at count
-    tail_says at (tail.Refused k) = Refuses (first_failed (tail_checks rows cols 257 (drop at file))) k
+    abbrev pub tail_says : ℕ → Result ℕ Refusal → Type 0
+    tail_says at (Ok count) = TailPasses 257 at count
+    tail_says at (Err refusal) = first_failed (tail_checks rows cols 257 (drop at file)) ≡ refusal_number refusal
 
     -- rows and what follows them: what reading hands back
-    unfoldable pub records_answer : Sheet
+    unfoldable pub records_answer : SheetTold
     records_answer =
         cond (eqb (first_failed (rows_checks rows cols 0 rows (drop 6 file))) 0)
         (record { number = 0; rows = rows; cols = cols; outlets = outlet_count 257 (after_rows rows cols file) })

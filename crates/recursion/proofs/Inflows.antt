@@ -36,7 +36,7 @@ use Rattle.notes.specs.Notes.{cells_held}
 use Rattle.upstream.specs.Ready.{Ready, drops_at}
 use Rattle.upstream.proofs.Entering.{one_step, drops_by}
 use Rattle.recursion.specs.declared.Turn.{Turn}
-use Rattle.recursion.specs.Tracing.{NextTurn, CellReady, InflowsReady, CellTraced, InflowsTraced}
+use Rattle.recursion.specs.Tracing.{NoneThere, IsNext, CellReady, InflowsReady, CellTraced, InflowsTraced}
 use Rattle.recursion.proofs.Turning.{dirs_from}
 
 -- fewer directions, fewer cells
@@ -72,22 +72,17 @@ module _ (rule : Rule squares) (g : Grid) (outlets : List ℕ) (x : ℕ) (len : 
             rw n (omega (arith, ih.1)),
           )
 
-  to_turn : {rows cols : ℕ} {codes subaccumulations : List ℕ} {row col k : ℕ} {t : Turn}
-      → NextTurn rows cols codes outlets subaccumulations row col k t → g ≡ grid_of rows cols codes
-      → x ≡ row * cols + col
-      → (turn_to squares rule g outlets (drop k dirs) x len st
-      ≡ turn_to squares rule g outlets (drop t.k dirs) x len st)
-      × (cells_in g outlets (drop k dirs) x ≡ cells_in g outlets (drop t.k dirs) x)
-  to_turn {k} {t} next is-g is_x =
-      let e : k + (t.k - k) ≡ t.k = omega (arith, next.from) in
-      rw e at (skip (t.k - k) k (omega (arith, next.last, next.from))
-      (λ i a b. rw (is-g, is_x) (next.skipped i a (omega arith))))
+  skip_to : (k n : ℕ) → k ≤ n → n ≤ 8 → ((i : ℕ) → k ≤ i → i < n → inflow_in g outlets x (dir_at i) ≡ none)
+      → (turn_to squares rule g outlets (drop k dirs) x len st ≡ turn_to squares rule g outlets (drop n dirs) x len st)
+      × (cells_in g outlets (drop k dirs) x ≡ cells_in g outlets (drop n dirs) x)
+  skip_to k n h l f =
+      let e : k + (n - k) ≡ n = omega arith in
+      rw e at (skip (n - k) k (omega arith) (λ i a b. f i a (omega arith)))
 
 module _ {rows cols : ℕ} {codes outlets subaccumulations : List ℕ}
     (ready : Ready rows cols codes outlets subaccumulations) (met : Which Dir) (dropping : Bool)
     {row col : ℕ} {len : Length} {k : ℕ} {p : Progress} {old : List ℕ}
-    (inflows : InflowsReady rows cols codes outlets row col len k p old) {t : Turn}
-    (next : NextTurn rows cols codes outlets subaccumulations row col k t) where
+    (inflows : InflowsReady rows cols codes outlets row col len k p old) where
   abbrev g : Grid
   g = grid_of rows cols codes
 
@@ -103,31 +98,28 @@ module _ {rows cols : ℕ} {codes outlets subaccumulations : List ℕ}
   abbrev st : State squares
   st = state_of p old 4096
 
-  turned : (turn_to squares rule g outlets (drop k dirs) x len st
-      ≡ turn_to squares rule g outlets (drop t.k dirs) x len st)
-      × (cells_in g outlets (drop k dirs) x ≡ cells_in g outlets (drop t.k dirs) x)
-  turned = to_turn rule g outlets x len st next refl refl
-
   -- none is left
-  pub inflows_done : 8 ≤ t.k → InflowsTraced rows cols codes outlets met dropping row col len k p old p old
+  pub inflows_done : NoneThere rows cols codes outlets row col k 8
+      → InflowsTraced rows cols codes outlets met dropping row col len k p old p old
   unfolding cells_in
-  inflows_done h = let e : t.k ≡ 8 = omega (arith, next.last) in record {
-    state = sym (turned.0 ∙ ap (λ (j : ℕ). turn_to squares rule g outlets (drop j dirs) x len st) e
-        ∙ turn_done squares rule g outlets x len st);
+  inflows_done f = let t = skip_to rule g outlets x len st k 8 inflows.within (omega arith) f in record {
+    state = sym (t.0 ∙ turn_done squares rule g outlets x len st);
     room = inflows.room;
-    counted = record {
-      cells_done = omega (arith, turned.1, ap (λ (j : ℕ). cells_in g outlets (drop j dirs) x) e);
-      few_paths = inflows.bounded.few_paths;
-    };
+    counted = record { cells_done = omega (arith, t.1); few_paths = inflows.bounded.few_paths };
   }
 
   -- the neighbour that is turned to
-  module _ (h : t.k < 8) where
+  module _ {t : Turn} (next : IsNext rows cols codes outlets subaccumulations row col k t) where
+    turned : (turn_to squares rule g outlets (drop k dirs) x len st
+        ≡ turn_to squares rule g outlets (drop t.k dirs) x len st)
+        × (cells_in g outlets (drop k dirs) x ≡ cells_in g outlets (drop t.k dirs) x)
+    turned = skip_to rule g outlets x len st k t.k next.from (omega arith) next.skipped
+
     abbrev y : ℕ
-    y = t.row * cols + t.col
+    y = t.cell.row * cols + t.cell.col
 
     found : Found g outlets x (dir_at t.k) y
-    found = found_in g outlets x (dir_at t.k) y (next.there h)
+    found = found_in g outlets x (dir_at t.k) y next.there
 
     solid : ground g y ≡ true
     solid = found_ground g outlets x (dir_at t.k) y found
@@ -135,20 +127,20 @@ module _ {rows cols : ℕ} {codes outlets subaccumulations : List ℕ}
     -- its cells are some of those that are left
     left_cells : cells_in g outlets (drop k dirs) x ≡ sub y + cells_in g outlets (drop (t.k + 1) dirs) x
     unfolding cells_in
-    left_cells = turned.1 ∙ rw (dirs_from t.k h, next.there h, add-one t.k)
+    left_cells = turned.1 ∙ rw (dirs_from t.k next.last, next.there, add-one t.k)
 
     inside : y < rows * cols
-    inside = digits_lt (next.row_in h) (next.col_in h)
+    inside = digits_lt next.row_in next.col_in
 
     -- its cells and its step, as the source has them
     pub cells_lent : t.cells ≡ cells_held (get_or subaccumulations y 0)
-    cells_lent = ap (λ (u : Turn). u.cells) (next.is_turn h)
+    cells_lent = ap (λ (u : Turn). u.cells) next.is_turn
 
     pub cells_are : t.cells ≡ sub y
     cells_are = cells_lent ∙ ready.filled y inside
 
     step_is : plus_step len t.step ≡ plus_step len (step_of (opposite (dir_at t.k)))
-    step_is = ap (λ (u : Turn). plus_step len u.step) (next.is_turn h)
+    step_is = ap (λ (u : Turn). plus_step len u.step) next.is_turn
 
     -- it has fewer cells than the cell it flows to
     pub fewer : t.cells < sub x
@@ -168,7 +160,7 @@ module _ {rows cols : ℕ} {codes outlets subaccumulations : List ℕ}
 
     opened : turn_to squares rule g outlets (drop k dirs) x len st
         ≡ turn_to squares rule g outlets (dir_at t.k ∷ drop (t.k + 1) dirs) x len st
-    opened = turned.0 ∙ ap (λ ds. turn_to squares rule g outlets ds x len st) (dirs_from t.k h ∙ rw (add-one t.k))
+    opened = turned.0 ∙ ap (λ ds. turn_to squares rule g outlets ds x len st) (dirs_from t.k next.last ∙ rw (add-one t.k))
 
     module _ {own : Length} (is-own : own ≡ plus_step len t.step) where
       own_steps : own.straight + own.diagonal ≡ len.straight + len.diagonal + 1
@@ -224,11 +216,11 @@ module _ {rows cols : ℕ} {codes outlets subaccumulations : List ℕ}
 
       -- it is traced
       module _ (e : b ≡ false) where
-        pub cell_ready : CellReady rows cols codes outlets t.row t.col own p old
+        pub cell_ready : CellReady rows cols codes outlets t.cell.row t.cell.col own p old
         cell_ready = let u = inflows.bounded in record {
           room = inflows.room;
-          row_in = next.row_in h;
-          col_in = next.col_in h;
+          row_in = next.row_in;
+          col_in = next.col_in;
           solid = solid;
           bounded = record {
             cells_fit = omega (arith, left_cells);
@@ -238,7 +230,7 @@ module _ {rows cols : ℕ} {codes outlets subaccumulations : List ℕ}
         }
 
         module _ {q : Progress} {mid : List ℕ}
-            (c : CellTraced rows cols codes outlets met dropping t.row t.col own p old q mid) where
+            (c : CellTraced rows cols codes outlets met dropping t.cell.row t.cell.col own p old q mid) where
           pub rest_ready : InflowsReady rows cols codes outlets row col len (t.k + 1) q mid
           rest_ready = let u = inflows.bounded in record {
             room = c.room;

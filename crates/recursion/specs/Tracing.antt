@@ -1,6 +1,6 @@
 -- What the functions of the cycle ask and promise, in the words of the search.
 -- Assumes nothing.
-use Rattle.std.specs.Prelude.{◌≡◌, Bool, true, List, ℕ, ◌+◌, ◌*◌, ◌≤◌, ◌<◌, length, get_or, drop}
+use Rattle.std.specs.Prelude.{◌≡◌, Bool, true, List, ℕ, ◌+◌, ◌*◌, ◌≤◌, ◌<◌, length, get_or, drop, Option, Some, None}
 use Rattle.std.proofs.Math.Option.{none, some}
 use Rattle.lengths.specs.declared.Length.{Length}
 use Rattle.ground.specs.Compass.{Dir, dirs, opposite, step_of, squares}
@@ -21,8 +21,7 @@ use Rattle.recursion.specs.declared.Turn.{Turn}
 abbrev pub turn_at : ℕ → List ℕ → ℕ → ℕ → ℕ → Turn
 turn_at cols subaccumulations k row col = record {
   k = k;
-  row = row;
-  col = col;
+  cell = record { row = row; col = col };
   cells = cells_held (get_or subaccumulations (row * cols + col) 0);
   step = step_of (opposite (dir_at k));
 }
@@ -33,17 +32,26 @@ pub record TurnReady (rows cols : ℕ) (codes subaccumulations : List ℕ) (row 
   pub has_subaccumulations : rows * cols ≤ length subaccumulations
   pub within : k ≤ 8
 
--- the next direction, from k on, in which there is something to turn to
-pub record NextTurn (rows cols : ℕ) (codes outlets subaccumulations : List ℕ) (row col k : ℕ) (r : Turn) : Type 0 where
-  pub from : k ≤ r.k
-  pub last : r.k ≤ 8
-  pub skipped : (i : ℕ) → k ≤ i → i < r.k → inflow_in (grid_of rows cols codes) outlets (row * cols + col) (dir_at i)
-      ≡ none
-  pub there : r.k < 8 → inflow_in (grid_of rows cols codes) outlets (row * cols + col) (dir_at r.k)
-      ≡ some (r.row * cols + r.col)
-  pub row_in : r.k < 8 → r.row < rows
-  pub col_in : r.k < 8 → r.col < cols
-  pub is_turn : r.k < 8 → r ≡ turn_at cols subaccumulations r.k r.row r.col
+-- in no direction from k on and before n is there something to turn to
+abbrev pub NoneThere : (rows cols : ℕ) (codes outlets : List ℕ) (row col k n : ℕ) → Type 0
+NoneThere rows cols codes outlets row col k n = (i : ℕ) → k ≤ i → i < n
+    → inflow_in (grid_of rows cols codes) outlets (row * cols + col) (dir_at i) ≡ none
+
+-- a turn is to the next direction, from k on, in which there is something to turn to
+pub record IsNext (rows cols : ℕ) (codes outlets subaccumulations : List ℕ) (row col k : ℕ) (t : Turn) : Type 0 where
+  pub from : k ≤ t.k
+  pub last : t.k < 8
+  pub skipped : NoneThere rows cols codes outlets row col k t.k
+  pub there : inflow_in (grid_of rows cols codes) outlets (row * cols + col) (dir_at t.k) ≡ some (t.cell.row * cols + t.cell.col)
+  pub row_in : t.cell.row < rows
+  pub col_in : t.cell.col < cols
+  pub is_turn : t ≡ turn_at cols subaccumulations t.k t.cell.row t.cell.col
+
+-- the next turn, from k on, or none where there is none
+abbrev pub NextTurn : (rows cols : ℕ) (codes outlets subaccumulations : List ℕ) (row col k : ℕ) → Option Turn → Type 0
+NextTurn rows cols codes outlets subaccumulations row col k None = NoneThere rows cols codes outlets row col k 8
+NextTurn rows cols codes outlets subaccumulations row col k (Some t) =
+    IsNext rows cols codes outlets subaccumulations row col k t
 
 -- a cell was visited, and its length met if its word says so by the edition
 pub record VisitedAt (edition : ℕ) (subaccumulations : List ℕ) (x : ℕ) (len : Length) (p : Progress) (old : List ℕ)

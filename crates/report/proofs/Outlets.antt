@@ -7,9 +7,10 @@ use native.Mathlib.Omega.{arith}
 use lib.ListN.{take, get_or}
 use Rattle.cells.specs.Numbers.{RowAndColumn}
 use Rattle.cells.proofs.Numbers.{is_row_lem, is_col}
+use Rattle.answers.specs.declared.Answer.{Answer}
 use Rattle.answers.specs.declared.Answer.TheVariants.{Found, NoPlace, Refused}
 use Rattle.answers.specs.declared.Traced.{Traced}
-use Rattle.answers.specs.Entries.{Catchment, catchment}
+use Rattle.answers.specs.Entries.{Catchment}
 use Rattle.answers.specs.Tracings.{Lent, lent, Traces}
 use Rattle.lines.specs.Line.{outlet_line}
 use Rattle.lines.specs.Appending.{Appends}
@@ -39,26 +40,24 @@ found_lines cols place cell t left is_found is_cell is-cells is-starts =
     rw (is_found, is_row_lem is_cell, is_col is_cell, is-cells, is-starts)
 
 -- and where it did not
-pub no_place_lines : (cols place cell : ℕ) (t : Traced) (left : Lent) {paths : ℕ} → t.answer ≡ NoPlace paths
+pub other_lines : (cols place cell : ℕ) (t : Traced) (left : Lent)
+    → ((straight diagonal paths : ℕ) → t.answer ≡ Found straight diagonal paths → ⊥)
     → [] ≡ traced_lines cols place cell t left
 unfolding answer_lines
-no_place_lines cols place cell t left e = rw e
-
-pub refused_lines : (cols place cell : ℕ) (t : Traced) (left : Lent) {number : ℕ} → t.answer ≡ Refused number
-    → [] ≡ traced_lines cols place cell t left
-unfolding answer_lines
-refused_lines cols place cell t left e = rw e
+other_lines cols place cell t left f = go t.answer refl
+  where
+    go : (a : Answer) → t.answer ≡ a → [] ≡ answer_lines cols place cell t left a
+    go (Found straight diagonal paths) e = absurd (f straight diagonal paths e)
+    go (NoPlace paths) e = refl
+    go (Refused number) e = refl
 
 -- what tracing answers and leaves makes the outlet's lines
-pub outlet_is : (rows cols place : ℕ) (codes accumulation outlets : List ℕ) {wide at cell : ℕ} {t : Traced}
-    {subaccumulation starts : List ℕ} → wide ≡ cols → at ≡ place → cell ≡ get_or outlets place 0
-    → Traces (call_at (catchment rows wide codes accumulation outlets) at) started_lent
-    (number_at (catchment rows wide codes accumulation outlets) at) t (lent subaccumulation starts)
-    → traced_lines cols place cell t (lent subaccumulation starts)
-    ≡ outlet_lines (catchment rows cols codes accumulation outlets) place
+pub outlet_is : (c : Catchment) (place : ℕ) {cell : ℕ} {t : Traced} {subaccumulation starts : List ℕ}
+    → cell ≡ get_or c.outlets place 0
+    → Traces (call_at c place) started_lent (number_at c place) t (lent subaccumulation starts)
+    → traced_lines c.grid.cols place cell t (lent subaccumulation starts) ≡ outlet_lines c place
 unfolding outlet_lines traced_at left_at
-outlet_is rows cols place codes accumulation outlets is_IsWide is_at is_cell traces =
-    rw (traces.answers, traces.fills, traces.lists, is_IsWide, is_at, is_cell)
+outlet_is c place is_cell traces = rw (traces.answers, traces.fills, traces.lists, is_cell)
 
 -- ---- one after another
 

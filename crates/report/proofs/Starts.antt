@@ -1,26 +1,15 @@
--- The first places of a list, and the lines of starts, one more at a time.
+-- The lines of starts, one more at a time.
 -- Assumes nothing.
 use mathlib.Core.Path.{◌≡◌, refl, sym, ap, ◌∙◌}
-use mathlib.Core.Logic.{◌⊎◌, inl, inr}
 use mathlib.Core.List.{List, [], ◌∷◌, ◌++◌, append_assoc, append-nil}
-use Prim.Native.Nat.{ℕ, ◌+◌, ◌/◌, ◌%◌, ◌≤◌, ◌<◌}
+use Prim.Native.Nat.{ℕ, ◌+◌, ◌/◌, ◌%◌, ◌<◌}
 use native.Mathlib.Numerals.{add-one}
-use native.Mathlib.Omega.{arith}
 use lib.ListN.{length, take, get_or}
-use lib.Seq.{take-suc, take_all}
+use lib.Seq.{take-suc}
 use Rattle.cells.specs.Numbers.{RowAndColumn}
 use Rattle.cells.proofs.Numbers.{is_row_lem, is_col}
 use Rattle.lines.specs.Line.{path_line}
 use Rattle.report.specs.Desk.{path_lines}
-
--- as many places as are asked for or as there are, whichever is less
-pub first_taken : (n : ℕ) (list : List ℕ) {k m : ℕ} → m ≡ n
-    → (k ≤ m) × (k ≤ length list) × ((k ≡ m) ⊎ (k ≡ length list))
-    → take k list ≡ take n list
-first_taken n list {k} {m} e (low, fits, is) = elim is [
-  | inl k-is ↦ ap (λ (i : ℕ). take i list) (k-is ∙ e)
-  | inr k-is ↦ take_all k list (omega arith) ∙ sym (take_all n list (omega arith))
-]
 
 after : (cols : ℕ) (ss : List ℕ) (s : ℕ)
     → path_lines cols (ss ++ (s ∷ [])) ≡ path_lines cols ss ++ path_line (s / cols) (s % cols)

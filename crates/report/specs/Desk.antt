@@ -1,6 +1,6 @@
 -- What the desk program prints, as bytes, for every file (01, Sheet and desk).
 -- Assumes nothing.
-use Rattle.std.specs.Prelude.{true, cond, List, [], ◌∷◌, ◌++◌, ℕ, zero, suc, ◌+◌, ◌*◌, ◌/◌, ◌%◌, length, take, get_or, eqb}
+use Rattle.std.specs.Prelude.{◌≡◌, Result, MatchResult, true, cond, List, [], ◌∷◌, ◌++◌, ℕ, zero, suc, ◌+◌, ◌*◌, ◌/◌, ◌%◌, length, take, get_or, eqb}
 use Rattle.lists.specs.Slices.{zeros}
 use Rattle.ground.specs.Grid.{Grid, grid_of}
 use Rattle.search.specs.Tracing.{numbers_each}
@@ -19,6 +19,10 @@ use Rattle.spelling.specs.Reading.{read_sheet, left_content}
 unfoldable pub first_number : List ℕ → ℕ
 first_number [] = 0
 first_number (n ∷ ns) = cond (eqb n 0) (first_number ns) n
+
+-- a number as a result: 0 is accepted, and any other is what is refused with
+abbrev pub Tells : {A : Type 0} → ℕ → Result A ℕ → Type 0
+Tells n r = MatchResult r (λ x. n ≡ 0) (λ m. (m ≡ n) × (m ≡ 0 → ⊥))
 
 -- ---- an outlet of a sheet: "traces by stack with dropping", in arrays that are "each started at zero"; 02, U7: by
 -- edition 1

@@ -7,14 +7,13 @@ ghost use Rattle.answers.specs.Entries.{catchment};
 ghost use Rattle.answers.specs.Tracings.{lent};
 ghost use Rattle.lines.specs.Appending.{Appends, Holds, HoldsWhole};
 ghost use Rattle.spelling.specs.Content.{content};
-ghost use Rattle.report.specs.Desk.{number_at, numbers_from, first_number, path_lines, traced_lines};
+ghost use Rattle.report.specs.Desk.{Tells, number_at, numbers_from, first_number, path_lines, traced_lines};
 ghost use Rattle.report.specs.Desk.{outlet_lines, outlets_lines, tracing_number, sheet_text, desk_text, file_bytes};
 
 use accumulation::accumulate;
 use answers::{Answer, Traced, in_numbers};
 use cells::count_off;
 use lines::{OutletLine, put_catchment, put_outlet, put_path, put_refused};
-use lists::{index_of, least};
 use reading::read;
 use spelling::Sheet;
 use stack::NUMBERS_EACH;
@@ -35,17 +34,18 @@ pub fn file_place() -> [u8; FILE_BYTES]
 // The numbers of working space, enough for a subwatershed of 4,096 cells.
 const WORKING: usize = NUMBERS_EACH * 4096;
 
-// The number with which the outlet at a place is traced.
-fn number_at(
+// Is the outlet at a place traced? If not, the number with which it is refused.
+// The refusal is a number, as `Answer::Refused` has it, and the working space is arrays: a rule of the project, no heap.
+fn check_outlet(
     rows: usize,
     cols: usize,
     codes: &[u8],
     accumulation: &[u32],
     outlets: &[u32],
     place: usize,
-) -> u32
-    ensures { result ≡ number_at
-        (catchment rows cols codes.now accumulation.now outlets.now) place }
+) -> Result<(), u32>
+    ensures { Tells (number_at
+        (catchment rows cols codes.now accumulation.now outlets.now) place) result }
 {
     let mut subaccumulation = [0u32; 4096];
     let mut starts = [0u32; 4096];
@@ -63,57 +63,50 @@ fn number_at(
         &mut starts,
         &mut work,
     );
-    let answer = t.answer;
-    let n = in_numbers(answer);
-    n.number
+    match in_numbers(t.answer).number {
+        0 => Ok(()),
+        number => Err(number),
+    }
 }
 
-// The first refusal among the outlets.
-fn first_refusal(
+// Are all outlets? If not, the number of the first that is refused.
+fn check_each(
     rows: usize,
     cols: usize,
     codes: &[u8],
     accumulation: &[u32],
     outlets: &[u32],
-) -> u32
-    ensures { result ≡ first_number (numbers_from
+) -> Result<(), u32>
+    ensures { Tells (first_number (numbers_from
         (catchment rows cols codes.now accumulation.now outlets.now)
-        0 (length outlets.now)) }
+        0 (length outlets.now))) result }
 {
-    let mut place: usize = 0;
-    while place < outlets.len() {
-        let number = number_at(rows, cols, codes, accumulation, outlets, place);
-        if number != 0 {
-            return number;
-        }
-        place += 1;
+    for place in 0..outlets.len() {
+        check_outlet(rows, cols, codes, accumulation, outlets, place)?;
     }
-    0
+    Ok(())
 }
 
-// The first refusal of a tracing. The first place is asked for even where there is none.
-fn tracing_number(
+// The same, but the first place is asked for even where there is none.
+fn check_tracing(
     rows: usize,
     cols: usize,
     codes: &[u8],
     accumulation: &[u32],
     outlets: &[u32],
-) -> u32
-    ensures { result ≡ tracing_number
-        (catchment rows cols codes.now accumulation.now outlets.now) }
+) -> Result<(), u32>
+    ensures { Tells (tracing_number
+        (catchment rows cols codes.now accumulation.now outlets.now)) result }
 {
-    let number = number_at(rows, cols, codes, accumulation, outlets, 0);
-    if number != 0 {
-        return number;
-    }
-    first_refusal(rows, cols, codes, accumulation, outlets)
+    check_outlet(rows, cols, codes, accumulation, outlets, 0)?;
+    check_each(rows, cols, codes, accumulation, outlets)
 }
 
 // The first n places of a list, or all of them where there are fewer.
 fn first_of<'a>(list: &'a [u32], n: u32) -> &'a [u32]
     ensures { result.now ≡ take n list.now }
 {
-    let k = least(index_of(n), list.len());
+    let k = list.len().min(n as usize);
     &list[..k]
 }
 
@@ -121,11 +114,7 @@ fn first_of<'a>(list: &'a [u32], n: u32) -> &'a [u32]
 fn value_at(list: &[u32], place: u32) -> u32
     ensures { result ≡ get_or list.now place 0 }
 {
-    let i = index_of(place);
-    if i < list.len() {
-        return list[i];
-    }
-    0
+    list.get(place as usize).copied().unwrap_or(0)
 }
 
 // A line for each start, by its row and column.
@@ -134,11 +123,9 @@ fn put_starts(text: &mut [u8], at: usize, cols: u32, starts: &[u32]) -> usize
     ensures { Appends (path_lines cols starts.now) at text.old result text.new }
 {
     let mut to = at;
-    let mut k: usize = 0;
-    while k < starts.len() {
-        let start = count_off(cols, starts[k]);
-        to = put_path(text, to, start.row, start.col);
-        k += 1;
+    for &start in starts {
+        let cell = count_off(cols, start);
+        to = put_path(text, to, cell.row, cell.col);
     }
     to
 }
@@ -159,32 +146,28 @@ fn put_traced(
         (traced_lines cols place cell t (lent subaccumulation.now starts.now))
         at text.old result text.new }
 {
-    let answer = t.answer;
-    match answer {
-        Answer::Found {
-            straight,
-            diagonal,
-            paths,
-        } => {
-            let printed = place + 1;
-            let outlet = count_off(cols, cell);
-            let line = OutletLine {
-                place: printed,
-                row: outlet.row,
-                col: outlet.col,
-                cells: value_at(subaccumulation, cell),
-                straight,
-                diagonal,
-                paths,
-                visited: t.visited,
-                dropped: t.dropped,
-            };
-            let to = put_outlet(text, at, line);
-            put_starts(text, to, cols, first_of(starts, paths))
-        }
-        Answer::NoPlace { paths: _ } => at,
-        Answer::Refused { number: _ } => at,
-    }
+    let Answer::Found {
+        straight,
+        diagonal,
+        paths,
+    } = t.answer
+    else {
+        return at;
+    };
+    let outlet = count_off(cols, cell);
+    let line = OutletLine {
+        place: place + 1,
+        row: outlet.row,
+        col: outlet.col,
+        cells: value_at(subaccumulation, cell),
+        straight,
+        diagonal,
+        paths,
+        visited: t.visited,
+        dropped: t.dropped,
+    };
+    let to = put_outlet(text, at, line);
+    put_starts(text, to, cols, first_of(starts, paths))
 }
 
 // The lines of the outlet at a place, which is traced by stack with dropping.
@@ -209,11 +192,11 @@ fn put_outlet_at(
     let t = trace_by_stack(
         1,
         rows,
-        index_of(cols),
+        cols as usize,
         codes,
         accumulation,
         outlets,
-        index_of(place),
+        place as usize,
         true,
         &mut subaccumulation,
         &mut starts,
@@ -239,10 +222,8 @@ fn put_outlets(
         0 (length outlets.now)) at text.old result text.new }
 {
     let mut to = at;
-    let mut place: u32 = 0;
-    while index_of(place) < outlets.len() {
+    for place in 0..outlets.len() as u32 {
         to = put_outlet_at(text, to, rows, cols, codes, accumulation, outlets, place);
-        place += 1;
     }
     to
 }
@@ -254,15 +235,13 @@ fn report_sheet(text: &mut [u8], sheet: Sheet, codes: &[u8], outlets: &[u32]) ->
         (sheet_text (content sheet.rows sheet.cols codes.now outlets.now) sheet.outlets)
         0 text.old result text.new }
 {
-    let rows = index_of(sheet.rows);
-    let cols = index_of(sheet.cols);
+    let rows = sheet.rows as usize;
+    let cols = sheet.cols as usize;
     let mut accumulation = [0u32; 4096];
-    let ring = accumulate(rows, cols, codes, &mut accumulation);
-    if ring != 0 {
-        return put_refused(text, 0, ring);
+    if let Err(refusal) = accumulate(rows, cols, codes, &mut accumulation) {
+        return put_refused(text, 0, refusal.number());
     }
-    let number = tracing_number(rows, cols, codes, &accumulation, outlets);
-    if number != 0 {
+    if let Err(number) = check_tracing(rows, cols, codes, &accumulation, outlets) {
         return put_refused(text, 0, number);
     }
     let at = put_catchment(text, 0, sheet.rows, sheet.cols, sheet.outlets);
@@ -275,11 +254,10 @@ fn put_report(file: &[u8], text: &mut [u8]) -> usize
 {
     let mut codes = [0u8; 4096];
     let mut outlets = [0u32; 256];
-    let sheet = read(file, &mut codes, &mut outlets);
-    if sheet.number != 0 {
-        return put_refused(text, 0, sheet.number);
+    match read(file, &mut codes, &mut outlets) {
+        Ok(sheet) => report_sheet(text, sheet, &codes, first_of(&outlets, sheet.outlets)),
+        Err(refusal) => put_refused(text, 0, refusal.number()),
     }
-    report_sheet(text, sheet, &codes, first_of(&outlets, sheet.outlets))
 }
 
 // What the desk prints for a file. The lent bytes have room for any file's text, so that no line is ever lost; how many

@@ -2,6 +2,7 @@ pub mod Records
 pub mod Accepted
 pub mod Spelled
 pub mod Sizes
+pub mod Parts
 pub mod FirstBytes
 pub mod Writable
 pub mod RoundTrip

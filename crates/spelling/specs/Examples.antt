@@ -3,18 +3,16 @@
 -- Assumes nothing.
 use Rattle.std.specs.Prelude.{List, [], ◌∷◌, ◌++◌, ℕ, ◌-◌, ◌^◌, length, take, drop, set, replicate}
 use Rattle.answers.specs.MarkedRows.{nines}
-use Rattle.spelling.specs.declared.Sheet.{Sheet}
-use Rattle.spelling.specs.declared.Written.{Written}
 use Rattle.spelling.specs.Content.{Content, content}
 use Rattle.spelling.specs.Format.{outlet_record, end_record, spelling}
-use Rattle.spelling.specs.Reading.{read_answer, read_leaves_codes, read_leaves_outlets}
-use Rattle.spelling.specs.Writing.{write_answer, write_leaves}
+use Rattle.spelling.specs.Reading.{SheetTold, read_answer, read_leaves_codes, read_leaves_outlets}
+use Rattle.spelling.specs.Writing.{WrittenTold, write_answer, write_leaves}
 
 pub data Example : Type 0 where
   -- reading a file into a grid and a list: what is handed back, and left in the two
-  reads : (file grid list : List ℕ) → Sheet → List ℕ → List ℕ → Example
+  reads : (file grid list : List ℕ) → SheetTold → List ℕ → List ℕ → Example
   -- writing a content: what is handed back, and left in the bytes
-  writes : Content → (bytes : List ℕ) → Written → List ℕ → Example
+  writes : Content → (bytes : List ℕ) → WrittenTold → List ℕ → Example
 
 abbrev pub worked : Example → Example
 worked (reads file grid list s codes outlets) =

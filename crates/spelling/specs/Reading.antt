@@ -1,7 +1,10 @@
 -- Reading a sheet: its checks, forward through the file; what is handed back, and what is left in the lent places.
 -- Assumes nothing.
-use Rattle.std.specs.Prelude.{◌≡◌, Bool, false, cond, ◌&&◌, List, [], ◌∷◌, ◌++◌, ℕ, zero, suc, ◌+◌, ◌*◌, length, get_or, take, drop, eqb, ltb, leb}
+use Rattle.std.specs.Prelude.{◌≡◌, Bool, false, cond, ◌&&◌, Result, Ok, Err}
+use Rattle.std.specs.Prelude.{List, [], ◌∷◌, ◌++◌, ℕ, zero, suc, ◌+◌, ◌*◌, length, get_or, take, drop, eqb, ltb, leb}
 use Rattle.ground.specs.Tables.{table1, is_code}
+use Rattle.answers.specs.declared.Refusal.{Refusal}
+use Rattle.answers.specs.Refusals.{refusal_number}
 use Rattle.answers.specs.Checks.{Check, check, first_failed, all_pass}
 use Rattle.lists.specs.Slices.{overlaid}
 use Rattle.spelling.specs.Content.{Content, content, lent_content}
@@ -118,11 +121,22 @@ read_number file grid list = first_failed
 
 -- ---- what is handed back and what is left
 
+-- what reading tells in numbers: that of the first check that fails, or 0; R, C and how many outlets there are
+pub record SheetTold : Type 0 where
+  pub number : ℕ
+  pub rows : ℕ
+  pub cols : ℕ
+  pub outlets : ℕ
+
 -- on refusal R, C and the outlet count are 0
-abbrev pub sheet_refused : ℕ → Sheet
+abbrev pub sheet_refused : ℕ → SheetTold
 sheet_refused number = record { number = number; rows = 0; cols = 0; outlets = 0 }
 
-unfoldable pub read_answer : List ℕ → ℕ → ℕ → Sheet
+abbrev pub sheet_told : Result Sheet Refusal → SheetTold
+sheet_told (Ok sheet) = record { number = 0; rows = sheet.rows; cols = sheet.cols; outlets = sheet.outlets }
+sheet_told (Err refusal) = sheet_refused (refusal_number refusal)
+
+unfoldable pub read_answer : List ℕ → ℕ → ℕ → SheetTold
 read_answer file grid list =
     cond (eqb (read_number file grid list) 0)
     (record { number = 0; rows = file_rows file; cols = file_cols file; outlets = length (file_outlets file) })
@@ -140,13 +154,13 @@ module _ (file grid list : List ℕ) where
   unfoldable pub read_leaves_outlets : List ℕ
   read_leaves_outlets = cond is_sheet (overlaid (file_outlets file) list) list
 
-pub record Reads (file grid list : List ℕ) (r : Sheet) (newGrid newList : List ℕ) : Type 0 where
-  pub answers : r ≡ read_answer file (length grid) (length list)
+pub record Reads (file grid list : List ℕ) (r : Result Sheet Refusal) (newGrid newList : List ℕ) : Type 0 where
+  pub answers : sheet_told r ≡ read_answer file (length grid) (length list)
   pub codes : newGrid ≡ read_leaves_codes file grid list
   pub outlets : newList ≡ read_leaves_outlets file grid list
 
 module _ (file grid list : List ℕ) where
-  abbrev pub read_sheet : Sheet
+  abbrev pub read_sheet : SheetTold
   read_sheet = read_answer file (length grid) (length list)
 
   -- the outlets that are left: as many places of the list as the answer counts

@@ -1,52 +1,36 @@
 -- Outlets that are far by their numbers are no neighbours, so that none of them flows in.
 -- Assumes nothing.
-use mathlib.Core.Path.{◌≡◌, refl, sym, ap, ◌∙◌}
-use mathlib.Core.Bool.{Bool, true, false, true≢false, ◌||◌}
+use mathlib.Core.Path.{◌≡◌, refl, sym, ◌∙◌}
+use mathlib.Core.Bool.{Bool, true, false, true≢false}
 use mathlib.Core.List.{List, [], ◌∷◌}
 use mathlib.Core.Option.{Option, none, some}
 use Prim.Native.Nat.{ℕ, zero, suc, ◌+◌, ◌*◌, ◌≤◌, ◌<◌}
 use native.Mathlib.Nat.{mul-le-mul, suc-mul}
 use native.Mathlib.Numerals.{add-one}
 use native.Mathlib.Omega.{arith}
-use lib.ListN.{length, get_or, drop, drop_of_length-le}
-use lib.Seq.{drop-cons}
 use lib.Dec.{eqb, leb, ltb}
-use borrow.Author.Tests.{eqb-true, leb-false, le-leb, lt-leb}
+use borrow.Author.Tests.{eqb-true, leb-false}
 use Rattle.lists.specs.Lists.{member}
 use Rattle.ground.specs.Compass.{Dir, dirs, Shift, less, as_is, more, shifted, row_shift, col_shift}
 use Rattle.ground.specs.Grid.{Grid, grid_of, cell_at, neighbour}
 use Rattle.ground.proofs.Cells.{neighbour_at}
 use Rattle.search.specs.Neighbours.{inflow_in}
 use Rattle.stack.specs.Pending.{inflows_above}
-use Rattle.stack.specs.Near.{gap_of, any_near, NoneFlowsIn}
+use Rattle.std.specs.Int.{abs_diff}
+use Rattle.stack.specs.Near.{any_near, NoneFlowsIn}
 
 -- ---- the outlets one after another
 
 module _ (at reach : ℕ) where
-  -- those from k on decide
-  module _ (l : List ℕ) (k : ℕ) (e : any_near at reach l ≡ any_near at reach (drop k l)) where
-    pub near_ends : length l ≤ k → false ≡ any_near at reach l
-    near_ends h = sym (e ∙ ap (any_near at reach) (drop_of_length-le l {i = k} h))
-
-    module _ (h : k < length l) where
-      opened : any_near at reach l ≡ (leb (gap_of (get_or l k 0) at) reach || any_near at reach (drop (suc k) l))
-      opened = e ∙ ap (any_near at reach) (drop-cons l k 0 h)
-
-      pub near_found : gap_of (get_or l k 0) at ≤ reach → true ≡ any_near at reach l
-      near_found n = sym (opened ∙ rw (le-leb (gap_of (get_or l k 0) at) reach n))
-
-      pub near_goes_on : reach < gap_of (get_or l k 0) at → any_near at reach l ≡ any_near at reach (drop (k + 1) l)
-      near_goes_on f = rw (add-one k) (opened ∙ rw (lt-leb (gap_of (get_or l k 0) at) reach f))
-
   -- where none is near, what is near is none of them
-  far_member : (y : ℕ) → gap_of y at ≤ reach → (os : List ℕ) → any_near at reach os ≡ false → member y os ≡ false
+  far_member : (y : ℕ) → abs_diff y at ≤ reach → (os : List ℕ) → any_near at reach os ≡ false → member y os ≡ false
   far_member y n [] e = refl
-  far_member y n (o ∷ os) e = go (leb (gap_of o at) reach) refl (eqb o y) refl (far_member y n os)
+  far_member y n (o ∷ os) e = go (leb (abs_diff o at) reach) refl (eqb o y) refl (far_member y n os)
     where
-      go : (b : Bool) → leb (gap_of o at) reach ≡ b → (c : Bool) → eqb o y ≡ c
+      go : (b : Bool) → leb (abs_diff o at) reach ≡ b → (c : Bool) → eqb o y ≡ c
           → (any_near at reach os ≡ false → member y os ≡ false) → member y (o ∷ os) ≡ false
       go true h c f ih = absurd (true≢false (sym (rw h) ∙ e))
-      go false h true f ih = absurd (omega (arith, eqb-true o y f, leb-false (gap_of o at) reach h))
+      go false h true f ih = absurd (omega (arith, eqb-true o y f, leb-false (abs_diff o at) reach h))
       go false h false f ih = rw f (ih (rw h at e))
 
 -- ---- a neighbour's number
@@ -54,13 +38,13 @@ module _ (at reach : ℕ) where
 none_some : {y : ℕ} → none ≡ some y → ⊥
 none_some e = let w : ◌≡◌ {A = ℕ} 0 1 = cc in omega arith
 
-shifted_near : (s : Shift) (bound x z : ℕ) → shifted s bound x ≡ some z → gap_of z x ≤ 1
+shifted_near : (s : Shift) (bound x z : ℕ) → shifted s bound x ≡ some z → abs_diff z x ≤ 1
 shifted_near less bound zero z e = absurd (none_some e)
 shifted_near less bound (suc x) z e = let q : x ≡ z = cc in omega arith
 shifted_near as_is bound x z e = let q : x ≡ z = cc in omega arith
 shifted_near more bound x z e = go (ltb (suc x) bound) refl
   where
-    go : (b : Bool) → ltb (suc x) bound ≡ b → gap_of z x ≤ 1
+    go : (b : Bool) → ltb (suc x) bound ≡ b → abs_diff z x ≤ 1
     go true f = let p : some (suc x) ≡ some z = sym (rw f) ∙ e in let q : suc x ≡ z = cc in omega arith
     go false f = absurd (none_some (sym (rw f) ∙ e))
 
@@ -77,12 +61,12 @@ module _ (rows cols : ℕ) (codes outlets : List ℕ) (row col : ℕ) (within : 
   abbrev x : ℕ
   x = row * cols + col
 
-  neighbour_near : (d : Dir) (y : ℕ) → neighbour g x d ≡ some y → gap_of y x ≤ cols + 1
+  neighbour_near : (d : Dir) (y : ℕ) → neighbour g x d ≡ some y → abs_diff y x ≤ cols + 1
   neighbour_near d y n = go (shifted (row_shift d) rows row) refl (shifted (col_shift d) cols col) refl
       (sym (neighbour_at g row col d within) ∙ n)
     where
       go : (a : Option ℕ) → shifted (row_shift d) rows row ≡ a → (b : Option ℕ) → shifted (col_shift d) cols col ≡ b
-          → cell_at cols a b ≡ some y → gap_of y x ≤ cols + 1
+          → cell_at cols a b ≡ some y → abs_diff y x ≤ cols + 1
       go none p b q e = absurd (none_some e)
       go (some r) p none q e = absurd (none_some e)
       go (some r) p (some c) q e =

@@ -63,7 +63,7 @@ module _ {rows cols : ℕ} {codes outlets subaccumulations : List ℕ}
       rest = pending old (s.top - 1)
 
       abbrev y : ℕ
-      y = w.row * cols + w.col
+      y = w.cell.row * cols + w.cell.col
 
       opened : pending old s.top ≡ w ∷ rest
       opened = taken_off old s.top some_left ∙ ap (λ v. v ∷ rest) (sym is-w)
@@ -75,7 +75,7 @@ module _ {rows cols : ℕ} {codes outlets subaccumulations : List ℕ}
       unfolding cells_pending
       cells = ap (cells_pending g outlets) opened
 
-      pub on_ground : OnGround rows cols codes w.row w.col
+      pub on_ground : OnGround rows cols codes w.cell.row w.cell.col
       on_ground = record { row_in = wait.0.row_in; col_in = wait.0.col_in; solid = wait.0.solid }
 
       pub short : Short w.len

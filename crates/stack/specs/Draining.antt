@@ -18,7 +18,7 @@ use Rattle.stack.specs.declared.Stack.{Stack}
 use Rattle.stack.specs.Pending.{Short, pending, inflows_above}
 
 abbrev pub cell_of : Grid → Pending → ℕ
-cell_of g w = w.row * g.cols + w.col
+cell_of g w = w.cell.row * g.cols + w.cell.col
 
 module _ (g : Grid) (outlets : List ℕ) where
   -- the cells that wait, with all above them
@@ -28,8 +28,8 @@ module _ (g : Grid) (outlets : List ℕ) where
 
   -- a cell of ground waits; its length and all its cells fit
   pub record Waits (end : ℕ) (w : Pending) : Type 0 where
-    pub row_in : w.row < g.rows
-    pub col_in : w.col < g.cols
+    pub row_in : w.cell.row < g.rows
+    pub col_in : w.cell.col < g.cols
     pub solid : ground g (cell_of g w) ≡ true
     pub short : numbers_each * (w.len.straight + w.len.diagonal + subaccumulation g outlets (cell_of g w)) ≤ end
 

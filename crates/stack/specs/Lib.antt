@@ -1,3 +1,4 @@
 pub mod Pending
 pub mod Near
 pub mod Draining
+pub mod Grids

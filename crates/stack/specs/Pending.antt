@@ -16,7 +16,7 @@ Short len = len.straight + len.diagonal < 2 ^ 24
 
 -- a cell of this row and column waits at its length
 abbrev pub pending_with : ℕ → ℕ → Length → Pending
-pending_with row col len = record { row = row; col = col; len = len }
+pending_with row col len = record { cell = record { row = row; col = col }; len = len }
 
 -- the pending cell above n others
 abbrev pub pending_at : List ℕ → ℕ → Pending

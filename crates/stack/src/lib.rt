@@ -4,20 +4,21 @@
 ghost use Rattle.std.specs.Prelude.{◌≡◌, true, [], ◌∷◌, map, ◌+◌, ◌*◌, ◌≤◌, ◌<◌, length};
 ghost use Rattle.lists.specs.Lists.{sum_of};
 ghost use Rattle.search.specs.Tracing.{numbers_each};
-ghost use Rattle.moves.specs.Lent.{OnCell};
+ghost use Rattle.moves.specs.Grids.{On};
 ghost use Rattle.notes.specs.Notes.{cells_held};
-ghost use Rattle.upstream.specs.Ready.{Ready, OnGround, cells_at, met_in};
-ghost use Rattle.stack.specs.Pending.{Short, pending_at, pending_with, all_above, PutOn};
-ghost use Rattle.stack.specs.Near.{gap_of, any_near, NoneFlowsIn};
-ghost use Rattle.stack.specs.Draining.{Fits, CellEntered, StackStands, StackTurned, StackTraced};
+ghost use Rattle.upstream.specs.Grids.{Ready, OnGround, cells_at};
+ghost use Rattle.stack.specs.Pending.{Short, pending_at, pending_with, PutOn};
+ghost use Rattle.stack.specs.Near.{any_near};
+ghost use Rattle.stack.specs.Draining.{Fits};
+ghost use Rattle.stack.specs.Grids.{all_above, NoneFlowsIn, CellEntered, StackStands, StackTurned, StackTraced};
 
+use cells::Cell;
 use inflows::{Inflows, inflows_of};
 use lengths::Length;
-use lists::{index_of, wide};
-use moves::Spot;
-use notes::{cells_held, is_met};
+use moves::Grid;
+use notes::{Edition, cells_held, is_met};
 use progress::{Progress, begin, drop_cells, is_dropped, visit};
-use upstream::{is_inner, step_at, tributary};
+use upstream::{FilledGrid, is_inner, step_at, tributary};
 
 // How many numbers of the working space a pending cell takes, and how many are asked for each cell.
 pub const NUMBERS_EACH: usize = 3;
@@ -25,8 +26,7 @@ pub const NUMBERS_EACH: usize = 3;
 // A cell that waits, and its length.
 #[derive(Clone, Copy)]
 pub struct Pending {
-    pub row: usize,
-    pub col: usize,
+    pub cell: Cell,
     pub len: Length,
 }
 
@@ -43,25 +43,26 @@ fn pending_at(work: &[u32], n: usize) -> Pending
     ensures { result ≡ pending_at work.now n }
 {
     let at = NUMBERS_EACH * n;
-    let cell = index_of(work[at]);
-    let len = Length {
-        straight: work[at + 1],
-        diagonal: work[at + 2],
-    };
+    let cell = work[at] as usize;
     Pending {
-        row: cell / 4096,
-        col: cell % 4096,
-        len,
+        cell: Cell {
+            row: cell / 4096,
+            col: cell % 4096,
+        },
+        len: Length {
+            straight: work[at + 1],
+            diagonal: work[at + 2],
+        },
     }
 }
 
 // A cell is put on n others.
-fn put(work: &mut [u32], n: usize, row: usize, col: usize, len: Length) -> usize
-    requires { (numbers_each * (n + 1) ≤ length work.old) × (row < 4096) × (col < 4096) }
-    ensures { PutOn (pending_with row col len ∷ []) n work.old result work.new }
+fn put(work: &mut [u32], n: usize, cell: Cell, len: Length) -> usize
+    requires { (numbers_each * (n + 1) ≤ length work.old) × (cell.row < 4096) × (cell.col < 4096) }
+    ensures { PutOn (pending_with cell.row cell.col len ∷ []) n work.old result work.new }
 {
     let at = NUMBERS_EACH * n;
-    work[at] = (row * 4096 + col) as u32;
+    work[at] = (cell.row * 4096 + cell.col) as u32;
     work[at + 1] = len.straight;
     work[at + 2] = len.diagonal;
     n + 1
@@ -70,32 +71,24 @@ fn put(work: &mut [u32], n: usize, row: usize, col: usize, len: Length) -> usize
 // What flows into a cell at this length is put on, each one step longer, the last neighbour first, so that the first
 // comes on top.
 fn put_inflows(
-    rows: usize,
-    cols: usize,
-    codes: &[u8],
+    grid: Grid,
     outlets: &[u32],
-    row: usize,
-    col: usize,
+    cell: Cell,
     len: Length,
     top: usize,
     work: &mut [u32],
 ) -> usize
-    requires on_cell { OnCell rows cols codes.now row col }
-    requires len_in_bounds { (numbers_each * (top + length (all_above rows cols codes.now outlets.now row col len))
-        ≤ length work.old) × Short len }
-    ensures { PutOn (all_above rows cols codes.now outlets.now row col len) top
-        work.old result work.new }
+    requires on_cell { On grid cell }
+    requires len_in_bounds { (numbers_each * (top + length (all_above grid outlets.now cell len)) ≤ length work.old)
+        × Short len }
+    ensures { PutOn (all_above grid.entry outlets.now cell len) top work.old result work.new }
 {
-    let inner = is_inner(rows, cols, row, col);
+    let inner = is_inner(grid.rows, grid.cols, cell);
     let mut at = top;
-    let mut left: usize = 8;
-    while 0 < left {
-        left -= 1;
-        if let Spot::On { row: r, col: c } = tributary(
-            inner, rows, cols, codes, outlets, row, col, left,
-        ) {
-            let own = len.plus(step_at(left));
-            at = put(work, at, r, c, own);
+    for k in (0..8).rev() {
+        if let Some(from) = tributary(inner, grid, outlets, cell, k) {
+            let own = len.plus(step_at(k));
+            at = put(work, at, from, own);
         }
     }
     at
@@ -105,140 +98,78 @@ fn put_inflows(
 fn cells_above(inflows: Inflows) -> u64
     ensures { result ≡ sum_of (map cells_held inflows.values) }
 {
-    let values = inflows.values;
-    let mut total: u64 = 0;
-    let mut i: usize = 0;
-    while i < 8 {
-        total += wide(cells_held(values[i]));
-        i += 1;
+    let mut total = 0;
+    for word in inflows.values {
+        total += u64::from(cells_held(word));
     }
     total
-}
-
-// How far apart two numbers are.
-fn gap(a: usize, b: usize) -> usize
-    ensures { result ≡ gap_of a b }
-{
-    if a < b {
-        return b - a;
-    }
-    a - b
 }
 
 // Does an outlet lie within this reach of a cell's number?
 fn lies_near(outlets: &[u32], at: usize, reach: usize) -> bool
     ensures { result ≡ any_near at reach outlets.now }
 {
-    let mut k: usize = 0;
-    while k < outlets.len() {
-        if gap(index_of(outlets[k]), at) <= reach {
-            return true;
-        }
-        k += 1;
-    }
-    false
+    outlets
+        .iter()
+        .any(|outlet| (*outlet as usize).abs_diff(at) <= reach)
 }
 
 // Is it known of a cell of n cells that no outlet flows in? Of a short list of outlets, if none is as near as a
 // neighbour by its number; of a long one, if the subaccumulations of all that flows in add up to those cells.
-fn none_flows_in(
-    rows: usize,
-    cols: usize,
-    codes: &[u8],
-    outlets: &[u32],
-    subaccumulation: &[u32],
-    row: usize,
-    col: usize,
-    n: u32,
-) -> bool
-    requires ready { Ready rows cols codes.now outlets.now subaccumulation.now }
-    requires on_ground { OnGround rows cols codes.now row col }
-    requires n_value { n ≡ cells_at rows cols codes.now outlets.now row col }
-    ensures { result ≡ true → NoneFlowsIn rows cols codes.now outlets.now row col }
+fn none_flows_in(filled: FilledGrid, cell: Cell, n: u32) -> bool
+    requires ready { Ready filled }
+    requires on_ground { OnGround filled cell }
+    requires n_value { n ≡ cells_at filled cell }
+    ensures { result ≡ true → NoneFlowsIn filled.entry cell }
 {
-    if outlets.len() < 16 {
-        let near = lies_near(outlets, row * cols + col, cols + 1);
-        return !near;
+    let grid = filled.grid;
+    if filled.outlets.len() < 16 {
+        let at = cell.row * grid.cols + cell.col;
+        return !lies_near(filled.outlets, at, grid.cols + 1);
     }
-    let inflows = inflows_of(rows, cols, codes, subaccumulation, row, col);
-    cells_above(inflows) == wide(n - 1)
+    let inflows = inflows_of(grid, filled.subaccumulation, cell);
+    cells_above(inflows) == u64::from(n - 1)
 }
 
 // The inflows of a cell of n cells are put on. Outlets are not looked for where none is known to flow in.
-fn climb(
-    rows: usize,
-    cols: usize,
-    codes: &[u8],
-    outlets: &[u32],
-    subaccumulation: &[u32],
-    row: usize,
-    col: usize,
-    n: u32,
-    len: Length,
-    top: usize,
-    work: &mut [u32],
-) -> usize
-    requires ready { Ready rows cols codes.now outlets.now subaccumulation.now }
-    requires on_ground { OnGround rows cols codes.now row col }
-    requires n_value { (n ≡ cells_at rows cols codes.now outlets.now row col)
-        × (numbers_each * (top + n) ≤ length work.old) × Short len }
-    ensures { PutOn (all_above rows cols codes.now outlets.now row col len) top
-        work.old result work.new }
+fn climb(filled: FilledGrid, cell: Cell, n: u32, len: Length, top: usize, work: &mut [u32]) -> usize
+    requires ready { Ready filled }
+    requires on_ground { OnGround filled cell }
+    requires n_value { (n ≡ cells_at filled cell) × (numbers_each * (top + n) ≤ length work.old) × Short len }
+    ensures { PutOn (all_above filled.entry.grid filled.entry.outlets.now cell len) top work.old result
+        work.new }
 {
-    let none = &outlets[..0];
-    if none_flows_in(rows, cols, codes, outlets, subaccumulation, row, col, n) {
-        return put_inflows(rows, cols, codes, none, row, col, len, top, work);
+    let outlets = filled.outlets;
+    if none_flows_in(filled, cell, n) {
+        return put_inflows(filled.grid, &outlets[..0], cell, len, top, work);
     }
-    put_inflows(rows, cols, codes, outlets, row, col, len, top, work)
+    put_inflows(filled.grid, outlets, cell, len, top, work)
 }
 
 // A cell is visited at its length, met or not by the edition, and its inflows wait. A headwater has none.
 fn enter_cell(
-    rows: usize,
-    cols: usize,
-    codes: &[u8],
-    outlets: &[u32],
-    subaccumulation: &[u32],
-    edition: u32,
-    row: usize,
-    col: usize,
+    filled: FilledGrid,
+    edition: Edition,
+    cell: Cell,
     len: Length,
     end: usize,
     p: Progress,
     top: usize,
     work: &mut [u32],
 ) -> Stack
-    requires ready { Ready rows cols codes.now outlets.now subaccumulation.now }
-    requires on_ground { OnGround rows cols codes.now row col }
-    requires fits { Fits (cells_at rows cols codes.now outlets.now row col) len end p top work.old }
-    ensures { CellEntered rows cols codes.now outlets.now
-        (met_in edition subaccumulation.now) row col len end p top work.old result
-        work.new }
+    requires ready { Ready filled }
+    requires on_ground { OnGround filled cell }
+    requires fits { Fits (cells_at filled cell) len end p top work.old }
+    ensures { CellEntered edition filled.entry cell len end p top work.old result work.new }
 {
-    let at = row * cols + col;
-    let word = subaccumulation[at];
+    let at = cell.row * filled.grid.cols + cell.col;
+    let word = filled.subaccumulation[at];
     let n = cells_held(word);
-    let met = is_met(edition, word);
+    let progress = visit(work, end, at as u32, is_met(edition, word), len, p);
     if n == 1 {
-        return Stack {
-            progress: visit(work, end, at as u32, met, len, p),
-            top,
-        };
+        return Stack { progress, top };
     }
-    let progress = visit(work, end, at as u32, met, len, p);
-    let higher = climb(
-        rows,
-        cols,
-        codes,
-        outlets,
-        subaccumulation,
-        row,
-        col,
-        n,
-        len,
-        top,
-        work,
-    );
+    let higher = climb(filled, cell, n, len, top, work);
     Stack {
         progress,
         top: higher,
@@ -248,135 +179,75 @@ fn enter_cell(
 // The outlet is entered. That is done once, and apart from other cells: enter_cell then has one caller, and the
 // compiler makes one loop of the whole search.
 fn enter_outlet(
-    rows: usize,
-    cols: usize,
-    codes: &[u8],
-    outlets: &[u32],
-    subaccumulation: &[u32],
-    edition: u32,
-    row: usize,
-    col: usize,
+    filled: FilledGrid,
+    edition: Edition,
+    cell: Cell,
     len: Length,
     end: usize,
     p: Progress,
     top: usize,
     work: &mut [u32],
 ) -> Stack
-    requires ready { Ready rows cols codes.now outlets.now subaccumulation.now }
-    requires on_ground { OnGround rows cols codes.now row col }
-    requires fits { Fits (cells_at rows cols codes.now outlets.now row col) len end p top work.old }
-    ensures { CellEntered rows cols codes.now outlets.now
-        (met_in edition subaccumulation.now) row col len end p top work.old result
-        work.new }
+    requires ready { Ready filled }
+    requires on_ground { OnGround filled cell }
+    requires fits { Fits (cells_at filled cell) len end p top work.old }
+    ensures { CellEntered edition filled.entry cell len end p top work.old result work.new }
 {
-    let at = row * cols + col;
-    let met = is_met(edition, subaccumulation[at]);
-    let visited = visit(work, end, at as u32, met, len, p);
-    let first = put_inflows(rows, cols, codes, outlets, row, col, len, top, work);
+    let at = cell.row * filled.grid.cols + cell.col;
+    let met = is_met(edition, filled.subaccumulation[at]);
+    let progress = visit(work, end, at as u32, met, len, p);
+    let higher = put_inflows(filled.grid, filled.outlets, cell, len, top, work);
     Stack {
-        progress: visited,
-        top: first,
+        progress,
+        top: higher,
     }
 }
 
 // One pending cell is taken off, and dropped or entered.
 fn turn(
-    rows: usize,
-    cols: usize,
-    codes: &[u8],
-    outlets: &[u32],
-    subaccumulation: &[u32],
-    edition: u32,
+    filled: FilledGrid,
+    edition: Edition,
     dropping: bool,
     end: usize,
     s: Stack,
     work: &mut [u32],
 ) -> Stack
-    requires ready { Ready rows cols codes.now outlets.now subaccumulation.now }
-    requires stack_stands { StackStands rows cols codes.now outlets.now end s work.old × (0 < s.top) }
-    ensures { StackTurned rows cols codes.now outlets.now
-        (met_in edition subaccumulation.now) dropping end s work.old result work.new }
+    requires ready { Ready filled }
+    requires stack_stands { StackStands filled end s work.old × (0 < s.top) }
+    ensures { StackTurned edition filled.entry dropping end s work.old result work.new }
 {
     let top = s.top - 1;
-    let p = s.progress;
     let w = pending_at(work, top);
-    let row = w.row;
-    let col = w.col;
-    let len = w.len;
-    let n = cells_held(subaccumulation[row * cols + col]);
-    if is_dropped(dropping, len, n, p) {
+    let n = cells_held(filled.subaccumulation[w.cell.row * filled.grid.cols + w.cell.col]);
+    if is_dropped(dropping, w.len, n, s.progress) {
         return Stack {
-            progress: drop_cells(p, n),
+            progress: drop_cells(s.progress, n),
             top,
         };
     }
-    enter_cell(
-        rows,
-        cols,
-        codes,
-        outlets,
-        subaccumulation,
-        edition,
-        row,
-        col,
-        len,
-        end,
-        p,
-        top,
-        work,
-    )
+    enter_cell(filled, edition, w.cell, w.len, end, s.progress, top, work)
 }
 
 // Traces all longest paths to an outlet. Of the working space it takes so many numbers for each cell: pending cells
 // stand at their front, and the starts before their end.
 pub fn trace(
-    rows: usize,
-    cols: usize,
-    codes: &[u8],
-    outlets: &[u32],
-    subaccumulation: &[u32],
-    edition: u32,
+    filled: FilledGrid,
+    edition: Edition,
     dropping: bool,
-    row: usize,
-    col: usize,
+    cell: Cell,
     work: &mut [u32],
 ) -> Progress
-    requires ready { Ready rows cols codes.now outlets.now subaccumulation.now }
-    requires on_ground { OnGround rows cols codes.now row col }
-    requires col_in_bounds { numbers_each * cells_at rows cols codes.now outlets.now row col ≤ length work.old }
-    ensures { StackTraced rows cols codes.now outlets.now
-        (met_in edition subaccumulation.now) dropping row col work.old result work.new }
+    requires ready { Ready filled }
+    requires on_ground { OnGround filled cell }
+    requires col_in_bounds { numbers_each * cells_at filled cell ≤ length work.old }
+    ensures { StackTraced edition filled.entry dropping cell work.old result work.new }
 {
-    let end = NUMBERS_EACH * index_of(cells_held(subaccumulation[row * cols + col]));
-    let none = Length::none();
-    let mut s = enter_outlet(
-        rows,
-        cols,
-        codes,
-        outlets,
-        subaccumulation,
-        edition,
-        row,
-        col,
-        none,
-        end,
-        begin(),
-        0,
-        work,
-    );
-    while 0 < s.top {
-        s = turn(
-            rows,
-            cols,
-            codes,
-            outlets,
-            subaccumulation,
-            edition,
-            dropping,
-            end,
-            s,
-            work,
-        );
+    let at = cell.row * filled.grid.cols + cell.col;
+    let end = NUMBERS_EACH * cells_held(filled.subaccumulation[at]) as usize;
+    let mut s = enter_outlet(filled, edition, cell, Length::none(), end, begin(), 0, work);
+    // No for: what is put on while cells are taken off is no range to go over.
+    while s.top > 0 {
+        s = turn(filled, edition, dropping, end, s, work);
     }
     s.progress
 }

@@ -4,35 +4,57 @@
 
 ghost use Rattle.std.specs.Prelude.{◌≡◌, ◌≤◌, length, get_or};
 ghost use Rattle.lists.specs.Lists.{member, all_below};
-ghost use Rattle.ground.specs.Tables.{table1, is_table, table_of, codes_of, is_code};
+ghost use Rattle.ground.specs.Tables.{table1, codes_of, is_code};
 ghost use Rattle.tables.specs.Faults.{fault_of};
+ghost use Rattle.tables.specs.Numbered.{the_table, Numbered};
 
-// 24: is this the number of a table?
-pub fn is_table(number: u32) -> bool
-    ensures { result ≡ is_table number }
-{
-    if number < 1 {
-        return false;
+use answers::Refusal;
+
+// A table of codes.
+#[derive(Clone, Copy)]
+pub enum CodeTable {
+    // 1, ours: powers of two, clockwise from east.
+    Powers,
+    // 2: 1 to 8, counter-clockwise from north-east.
+    CounterClockwise,
+    // 3: 1 to 8, clockwise from west.
+    Clockwise,
+}
+
+impl CodeTable {
+    // Its ten codes.
+    pub fn codes(self) -> [u8; 10]
+        ensures { result ≡ codes_of (the_table self) }
+    {
+        match self {
+            CodeTable::Powers => [0, 255, 1, 2, 4, 8, 16, 32, 64, 128],
+            CodeTable::CounterClockwise => [0, 255, 8, 7, 6, 5, 4, 3, 2, 1],
+            CodeTable::Clockwise => [0, 255, 5, 6, 7, 8, 1, 2, 3, 4],
+        }
     }
-    number <= 3
+}
+
+// 24: the table of a number.
+impl TryFrom<u32> for CodeTable {
+    type Error = Refusal;
+
+    ghost try_from_gives = { Numbered };
+
+    fn try_from(number: u32) -> Result<CodeTable, Refusal> {
+        match number {
+            1 => Ok(CodeTable::Powers),
+            2 => Ok(CodeTable::CounterClockwise),
+            3 => Ok(CodeTable::Clockwise),
+            _ => Err(Refusal::Table),
+        }
+    }
 }
 
 // Table 1, in which all entries but the converter take their codes.
 pub fn ours() -> [u8; 10]
     ensures { result ≡ codes_of table1 }
 {
-    [0, 255, 1, 2, 4, 8, 16, 32, 64, 128]
-}
-
-// The table of a number.
-pub fn codes_of(number: u32) -> [u8; 10]
-    ensures { result ≡ codes_of (table_of number) }
-{
-    match number {
-        2 => [0, 255, 8, 7, 6, 5, 4, 3, 2, 1],
-        3 => [0, 255, 5, 6, 7, 8, 1, 2, 3, 4],
-        _ => ours(),
-    }
+    CodeTable::Powers.codes()
 }
 
 // 12: 0 for a code of the table, 1 for any other byte. No code ends the loop, so that several bytes can be looked at at
@@ -41,12 +63,9 @@ fn fault_of(table: &[u8; 10], code: u8) -> u8
     requires { length table.now ≡ 10 }
     ensures { result ≡ fault_of (member code table.now) }
 {
-    let mut fault: u8 = 1;
-    let mut k: usize = 0;
-    while k < 10 {
-        let known = table[k];
-        k += 1;
-        if known == code {
+    let mut fault = 1;
+    for known in table {
+        if *known == code {
             fault = 0;
         }
     }
@@ -58,14 +77,9 @@ pub fn all_codes(table: &[u8; 10], codes: &[u8], n: usize) -> bool
     requires { (length table.now ≡ 10) × (n ≤ length codes.now) }
     ensures { result ≡ all_below (λ x. member (get_or codes.now x 0) table.now) n }
 {
-    let mut worst: u8 = 0;
-    let mut at: usize = 0;
-    while at < n {
-        let fault = fault_of(table, codes[at]);
-        at += 1;
-        if worst < fault {
-            worst = fault;
-        }
+    let mut worst = 0;
+    for code in &codes[..n] {
+        worst = worst.max(fault_of(table, *code));
     }
     worst == 0
 }
@@ -75,6 +89,5 @@ pub fn all_ours(codes: &[u8], n: usize) -> bool
     requires { n ≤ length codes.now }
     ensures { result ≡ all_below (λ x. is_code table1 (get_or codes.now x 0)) n }
 {
-    let table = ours();
-    all_codes(&table, codes, n)
+    all_codes(&ours(), codes, n)
 }

@@ -25,10 +25,12 @@ use Rattle.answers.specs.Tracings.{recursion_number, TracesByRecursion, stack_nu
 use Rattle.answers.proofs.FirstFailed.{handed_on}
 use Rattle.answers.proofs.Accepted.{number_told}
 use Rattle.checks.proofs.Passed.{beyond_place, place_at_most}
-use Rattle.tracing.specs.declared.Prepared.{Prepared}
+use Rattle.answers.specs.declared.Refusal.{Refusal}
+use Rattle.answers.specs.Refusals.{refusal_number}
+use Rattle.answers.proofs.Refusals.{has_number}
 use Rattle.listing.specs.Answering.{refused_with}
 use Rattle.tracing.specs.Answering.{Lists, ListsAndClears}
-use Rattle.tracing.specs.Preparing.{Prepares}
+use Rattle.tracing.specs.Preparing.{Prepared, Barred}
 
 module _ (q : Call) (old : Lent) where
   abbrev t : Tracing
@@ -94,32 +96,32 @@ module _ (q : Call) (old : Lent) where
       → Traces q old (first_failed (call_checks q given ++ ds)) r old
   refused_25 e ds is = rw (by_25 e ds, is) (at_first 25 (λ i. absurd (omega (arith, i))) (inr (omega arith)))
 
-  module _ (judged : is_edition q.edition ≡ true) {p : Prepared} {grid : List ℕ}
-      (prep : Prepares q.catchment q.place old.subaccumulation p grid) (last : Check) where
+  module _ (judged : is_edition q.edition ≡ true) (last : Check) where
     abbrev after : List Check
     after = last ∷ check21 (path_count t) old.starts ∷ []
 
     abbrev number : ℕ
     number = first_failed (call_checks q given ++ (last ∷ check21 (path_count t) old.starts ∷ []))
 
-    module _ (z : p.number ≡ 0 → ⊥) where
-      -- REFUSED BY 10 TO 18
-      early : number ≡ p.number
-      early = past_25 judged after ∙ sym (handed_on choosing after prep.is_number z)
+    -- REFUSED BY 10 TO 18
+    module _ {refusal : Refusal} {grid : List ℕ} (bar : Barred q.catchment q.place old.subaccumulation refusal grid) where
+      early : number ≡ refusal_number refusal
+      early = past_25 judged after ∙ sym (handed_on choosing after bar.is_number (has_number refusal))
 
-      small : p.number < 19
-      small = elim (dec_lt p.number 19) [
+      small : refusal_number refusal < 19
+      small = elim (dec_lt (refusal_number refusal) 19) [
         | yes h ↦ h
-        | no h ↦ absurd (place_at_most q.catchment _ q.place p.number (omega (arith, h))
-            (sym prep.is_number))
+        | no h ↦ absurd (place_at_most q.catchment _ q.place (refusal_number refusal) (omega (arith, h))
+            (sym bar.is_number))
       ]
 
-      refused_early : {r : Traced} → r ≡ refused_with p.number → Traces q old number r (lent grid old.starts)
-      refused_early e = rw (early, e, prep.refused z) (at_first p.number z (inl small))
+      refused_early : {r : Traced} → r ≡ refused_with (refusal_number refusal)
+          → Traces q old number r (lent grid old.starts)
+      refused_early e = rw (early, e, bar.kept) (at_first (refusal_number refusal) (has_number refusal) (inl small))
 
-    module _ (z : p.number ≡ 0) where
+    module _ {cells : ℕ} {grid : List ℕ} (prep : Prepared q.catchment q.place old.subaccumulation cells grid) where
       beyond : number ≡ first_failed (last ∷ check21 (path_count t) old.starts ∷ [])
-      beyond = past_25 judged after ∙ beyond_place q.catchment _ q.place after (sym prep.is_number ∙ z)
+      beyond = past_25 judged after ∙ beyond_place q.catchment _ q.place after (sym prep.passes)
 
       -- BY 19 OR 20
       late : last.passes ≡ false → number ≡ last.number
@@ -128,7 +130,7 @@ module _ (q : Call) (old : Lent) where
 
       refused_late : last.passes ≡ false → (last.number ≡ 19) ⊎ (last.number ≡ 20) → {r : Traced}
           → r ≡ refused_with last.number → Traces q old number r (lent grid old.starts)
-      refused_late f i e = rw (late f, e, prep.filled z) (at_last last.number i)
+      refused_late f i e = rw (late f, e, prep.filled) (at_last last.number i)
 
       -- OR ANSWERED BY THE SEARCH
       whole : last.passes ≡ true → number ≡ cond (leb (path_count t) (length old.starts)) 0 21
@@ -137,7 +139,7 @@ module _ (q : Call) (old : Lent) where
 
       answered_whole : last.passes ≡ true → {r : Traced} {list : List ℕ} → Lists t old.starts r list
           → Traces q old number r (lent grid list)
-      answered_whole f l = rw (whole f, l.answers, l.lists, prep.filled z)
+      answered_whole f l = rw (whole f, l.answers, l.lists, prep.filled)
           (searched (leb (path_count t) (length old.starts)))
 
   -- ---- by recursion
@@ -146,26 +148,26 @@ module _ (q : Call) (old : Lent) where
   unfolding recursion_number
   recursion_25 e is = refused_25 e _ is
 
-  module _ (judged : is_edition q.edition ≡ true) {p : Prepared} {grid : List ℕ}
-      (prep : Prepares q.catchment q.place old.subaccumulation p grid) where
-    pub recursion_first : (p.number ≡ 0 → ⊥) → {r : Traced} → r ≡ refused_with p.number
-        → TracesByRecursion q old r (lent grid old.starts)
+  module _ (judged : is_edition q.edition ≡ true) where
+    pub recursion_first : {refusal : Refusal} {grid : List ℕ}
+        → Barred q.catchment q.place old.subaccumulation refusal grid → {r : Traced}
+        → r ≡ refused_with (refusal_number refusal) → TracesByRecursion q old r (lent grid old.starts)
     unfolding recursion_number
-    recursion_first z e = refused_early judged prep (check19 (chosen_cells q)) z e
+    recursion_first bar e = refused_early judged (check19 (chosen_cells q)) bar e
 
-    module _ (z : p.number ≡ 0) where
-      pub recursion_19 : 4096 < p.cells → {r : Traced} → r ≡ refused_with 19
+    module _ {cells : ℕ} {grid : List ℕ} (prep : Prepared q.catchment q.place old.subaccumulation cells grid) where
+      pub recursion_19 : 4096 < cells → {r : Traced} → r ≡ refused_with 19
           → TracesByRecursion q old r (lent grid old.starts)
       unfolding recursion_number check19
-      recursion_19 h e = refused_late judged prep (check19 (chosen_cells q)) z
-          (lt-leb (chosen_cells q) 4096 (omega (arith, h, prep.counted z))) (inl refl) e
+      recursion_19 h e = refused_late judged (check19 (chosen_cells q)) prep
+          (lt-leb (chosen_cells q) 4096 (omega (arith, h, prep.counted))) (inl refl) e
 
-      pub recursion_whole : p.cells ≤ 4096 → {r : Traced} {list : List ℕ}
+      pub recursion_whole : cells ≤ 4096 → {r : Traced} {list : List ℕ}
           → Lists (chosen_tracing q) old.starts r list
           → TracesByRecursion q old r (lent grid list)
       unfolding recursion_number check19
-      recursion_whole h l = answered_whole judged prep (check19 (chosen_cells q)) z
-          (le-leb (chosen_cells q) 4096 (omega (arith, h, prep.counted z))) l
+      recursion_whole h l = answered_whole judged (check19 (chosen_cells q)) prep
+          (le-leb (chosen_cells q) 4096 (omega (arith, h, prep.counted))) l
 
   -- ---- from pending cells, with the working space
 
@@ -191,39 +193,40 @@ module _ (q : Call) (old : Lent) where
       clears = work_kept 25 (by_25 e _) (λ i. absurd (omega (arith, i))) (λ i. absurd (omega (arith, i)));
     }
 
-    module _ (judged : is_edition q.edition ≡ true) {p : Prepared} {grid : List ℕ}
-        (prep : Prepares q.catchment q.place old.subaccumulation p grid) where
-      pub stack_first : (p.number ≡ 0 → ⊥) → {r : Traced} → r ≡ refused_with p.number
-          → TracesByStack q old work r (lent grid old.starts) work
+    module _ (judged : is_edition q.edition ≡ true) where
+      pub stack_first : {refusal : Refusal} {grid : List ℕ}
+          → Barred q.catchment q.place old.subaccumulation refusal grid → {r : Traced}
+          → r ≡ refused_with (refusal_number refusal) → TracesByStack q old work r (lent grid old.starts) work
       unfolding stack_number
-      stack_first z e =
-          let s = small judged prep (check20 (chosen_cells q) work) z in
+      stack_first {refusal} bar e =
+          let last = check20 (chosen_cells q) work in
+          let s = small judged last bar in
           record {
-            traces = refused_early judged prep (check20 (chosen_cells q) work) z e;
-            clears = work_kept p.number (early judged prep (check20 (chosen_cells q) work) z) z (λ i. omega (arith, s, i));
+            traces = refused_early judged last bar e;
+            clears = work_kept (refusal_number refusal) (early judged last bar) (has_number refusal) (λ i. omega (arith, s, i));
           }
 
-      module _ (z : p.number ≡ 0) where
-        pub stack_20 : length work < numbers_each * p.cells → {r : Traced} → r ≡ refused_with 20
+      module _ {cells : ℕ} {grid : List ℕ} (prep : Prepared q.catchment q.place old.subaccumulation cells grid) where
+        pub stack_20 : length work < numbers_each * cells → {r : Traced} → r ≡ refused_with 20
             → TracesByStack q old work r (lent grid old.starts) work
         unfolding stack_number check20
         stack_20 h e =
             let last = check20 (chosen_cells q) work in
-            let f = lt-leb (numbers_each * chosen_cells q) (length work) (omega (arith, h, prep.counted z)) in
+            let f = lt-leb (numbers_each * chosen_cells q) (length work) (omega (arith, h, prep.counted)) in
             record {
-              traces = refused_late judged prep last z f (inr refl) e;
-              clears = work_kept 20 (late judged prep last z f) (λ i. absurd (omega (arith, i)))
+              traces = refused_late judged last prep f (inr refl) e;
+              clears = work_kept 20 (late judged last prep f) (λ i. absurd (omega (arith, i)))
                   (λ i. absurd (omega (arith, i)));
             }
 
-        pub stack_whole : numbers_each * p.cells ≤ length work → {r : Traced} {list space : List ℕ}
+        pub stack_whole : numbers_each * cells ≤ length work → {r : Traced} {list space : List ℕ}
             → ListsAndClears (chosen_tracing q) old.starts (chosen_cells q) work r list space
             → TracesByStack q old work r (lent grid list) space
         unfolding stack_number check20 leaves_work
         stack_whole h l =
             let last = check20 (chosen_cells q) work in
-            let f = le-leb (numbers_each * chosen_cells q) (length work) (omega (arith, h, prep.counted z)) in
+            let f = le-leb (numbers_each * chosen_cells q) (length work) (omega (arith, h, prep.counted)) in
             record {
-              traces = answered_whole judged prep last z f l.listed;
-              clears = work_clear (leb (path_count t) (length old.starts)) (whole judged prep last z f) l.clears;
+              traces = answered_whole judged last prep f l.listed;
+              clears = work_clear (leb (path_count t) (length old.starts)) (whole judged last prep f) l.clears;
             }

@@ -2,10 +2,11 @@
 -- Assumes nothing.
 use mathlib.Core.Path.{◌≡◌, ap}
 use mathlib.Core.List.{List}
-use Prim.Native.Nat.{ℕ, ◌+◌, ◌≤◌, ◌<◌}
+use Prim.Native.Nat.{ℕ, ◌+◌, ◌*◌, ◌≤◌, ◌<◌}
 use native.Mathlib.Omega.{arith}
 use lib.ListN.{length, get_or}
 use Rattle.lists.specs.Slices.{Kept}
+use Rattle.lists.proofs.Kept.{kept_wider}
 use Rattle.ground.specs.Grid.{grid_of}
 use Rattle.upstream.specs.Ready.{MetAt}
 use Rattle.noting.specs.Noting.{cells_at_place, Places, Readied}
@@ -31,3 +32,7 @@ module _ (rows cols : ℕ) (codes outlets : List ℕ) (place : ℕ) where
     pub own_list : Kept (cells_of rows cols codes outlets place) list list'
     own_list = r.list_kept (cells_of rows cols codes outlets place)
         (only_cells (cells_of rows cols codes outlets place) (omega arith))
+
+    -- and of the working space what its cells take
+    pub own_work : Kept (3 * cells_of rows cols codes outlets place) list list'
+    own_work = kept_wider (omega arith) own_list

@@ -1,2 +1,3 @@
 pub mod Answering
 pub mod Preparing
+pub mod Grids

@@ -1,73 +1,65 @@
 // Tracing all longest paths to an outlet of a list.
 #![tactic(auto)]
 
-ghost use Rattle.std.specs.Prelude.{◌≡◌, ◌*◌, ◌≤◌, length, get_or};
+ghost use Rattle.std.specs.Prelude.{◌≡◌, ◌*◌, ◌≤◌, length};
 ghost use Rattle.search.specs.Tracing.{numbers_each};
-ghost use Rattle.ground.specs.Grid.{grid_of};
-ghost use Rattle.upstream.specs.Ready.{Ready, MetAt};
-ghost use Rattle.noting.specs.Noting.{Fresh};
+ghost use Rattle.upstream.specs.Grids.{Ready};
+ghost use Rattle.noting.specs.Grids.{Fresh};
 ghost use Rattle.answers.specs.Entries.{catchment};
 ghost use Rattle.answers.specs.Tracings.{call_of, lent, TracesByRecursion, TracesByStack};
-ghost use Rattle.tracing.specs.Answering.{cells_of, tracing_at, Told, ToldAndLists, Lists, ListsAndClears};
-ghost use Rattle.tracing.specs.Preparing.{Chosen, Prepares};
+ghost use Rattle.tracing.specs.Answering.{Told, ToldAndLists, Lists, ListsAndClears};
+ghost use Rattle.tracing.specs.Preparing.{Prepares};
+ghost use Rattle.tracing.specs.Grids.{Chosen, MetAt, cells_of, tracing_at};
 
-use answers::Traced;
+use answers::{Refusal, Traced};
 use cells::split_number;
-use checks::place_number;
+use checks::check_place;
 use filling::fill;
 use listing::{answer_for, list_starts, refused};
-use lists::{clear, index_of};
-use notes::{cells_held, is_edition};
+use lists::clear;
+use moves::Grid;
+use notes::{Edition, cells_held};
 use noting::{make_plain, make_ready};
 use progress::Progress;
 use stack::NUMBERS_EACH;
+use upstream::FilledGrid;
 
 // Traces an outlet by recursion, in a grid that holds the subaccumulation and comes back as it was. The starts wait in
 // an array, since those of a length that is exceeded later must not be seen in the list.
 fn by_recursion(
-    edition: u32,
-    rows: usize,
-    cols: usize,
-    codes: &[u8],
+    edition: Edition,
+    grid: Grid,
     outlets: &[u32],
     subaccumulation: &mut [u32],
     dropping: bool,
     place: usize,
     starts: &mut [u32],
 ) -> Traced
-    requires fresh { Fresh rows cols codes.now outlets.now subaccumulation.old }
-    requires chosen { Chosen rows cols codes.now outlets.now place }
-    requires place_bound { cells_of rows cols codes.now outlets.now place ≤ 4096 }
-    ensures lists { Lists (tracing_at rows cols codes.now outlets.now place edition dropping)
-        starts.old result starts.new }
+    requires fresh { Fresh grid outlets.now subaccumulation.old }
+    requires chosen { Chosen grid outlets.now place }
+    requires place_bound { cells_of grid outlets.now place ≤ 4096 }
+    ensures lists { Lists (tracing_at grid.entry outlets.now place edition dropping) starts.old result
+        starts.new }
     ensures subaccumulation_unchanged { subaccumulation.new ≡ subaccumulation.old }
 {
-    let outlet = split_number(cols, outlets[place]);
+    let outlet = split_number(grid.cols, outlets[place]);
     let mut found = [0u32; 4096];
     make_ready(
         edition,
-        rows,
-        cols,
-        codes,
+        grid,
         outlets,
         place,
         place + 1,
         subaccumulation,
         &mut found,
     );
-    let p = recursion::trace(
-        rows,
-        cols,
-        codes,
+    let filled = FilledGrid {
+        grid,
         outlets,
         subaccumulation,
-        edition,
-        dropping,
-        outlet.row,
-        outlet.col,
-        &mut found,
-    );
-    make_plain(edition, rows * cols, subaccumulation);
+    };
+    let p = recursion::trace(filled, edition, dropping, outlet, &mut found);
+    make_plain(edition, grid.rows * grid.cols, subaccumulation);
     list_starts(&found, 4096, p.paths, starts);
     answer_for(p, starts.len())
 }
@@ -75,77 +67,40 @@ fn by_recursion(
 // Searches an outlet's subwatershed from pending cells, in a grid that is ready for it. The starts are left before the
 // end of the working numbers that the outlet's cells take.
 pub fn search_at(
-    edition: u32,
-    rows: usize,
-    cols: usize,
-    codes: &[u8],
-    outlets: &[u32],
-    subaccumulation: &[u32],
+    filled: FilledGrid,
+    edition: Edition,
     dropping: bool,
     place: usize,
     work: &mut [u32],
 ) -> Progress
-    requires ready { Ready rows cols codes.now outlets.now subaccumulation.now }
-    requires chosen { Chosen rows cols codes.now outlets.now place
-        × MetAt edition (grid_of rows cols codes.now) outlets.now (get_or outlets.now place 0)
-        subaccumulation.now }
-    requires place_in_bounds { numbers_each * cells_of rows cols codes.now outlets.now place ≤ length work.old }
-    ensures { Told (tracing_at rows cols codes.now outlets.now place edition
-        dropping)
-        (cells_of rows cols codes.now outlets.now place) work.old result
-        work.new }
+    requires ready { Ready filled }
+    requires chosen { Chosen filled.grid filled.outlets.now place × MetAt edition filled place }
+    requires place_in_bounds { numbers_each * cells_of filled.grid filled.outlets.now place ≤ length work.old }
+    ensures { Told (tracing_at filled.entry.grid filled.entry.outlets.now place edition dropping)
+        (cells_of filled.entry.grid filled.entry.outlets.now place) work.old result work.new }
 {
-    let cell = split_number(cols, outlets[place]);
-    stack::trace(
-        rows,
-        cols,
-        codes,
-        outlets,
-        subaccumulation,
-        edition,
-        dropping,
-        cell.row,
-        cell.col,
-        work,
-    )
+    let cell = split_number(filled.grid.cols, filled.outlets[place]);
+    stack::trace(filled, edition, dropping, cell, work)
 }
 
 // The same, and the starts are listed.
 pub fn list_at(
-    edition: u32,
-    rows: usize,
-    cols: usize,
-    codes: &[u8],
-    outlets: &[u32],
-    subaccumulation: &[u32],
+    filled: FilledGrid,
+    edition: Edition,
     dropping: bool,
     place: usize,
     starts: &mut [u32],
     work: &mut [u32],
 ) -> Progress
-    requires ready { Ready rows cols codes.now outlets.now subaccumulation.now }
-    requires chosen { Chosen rows cols codes.now outlets.now place
-        × MetAt edition (grid_of rows cols codes.now) outlets.now (get_or outlets.now place 0)
-        subaccumulation.now }
-    requires place_in_bounds { numbers_each * cells_of rows cols codes.now outlets.now place ≤ length work.old }
-    ensures { ToldAndLists (tracing_at rows cols codes.now outlets.now place edition
-        dropping)
-        (cells_of rows cols codes.now outlets.now place) starts.old
-        work.old result starts.new work.new }
+    requires ready { Ready filled }
+    requires chosen { Chosen filled.grid filled.outlets.now place × MetAt edition filled place }
+    requires place_in_bounds { numbers_each * cells_of filled.grid filled.outlets.now place ≤ length work.old }
+    ensures { ToldAndLists (tracing_at filled.entry.grid filled.entry.outlets.now place edition dropping)
+        (cells_of filled.entry.grid filled.entry.outlets.now place) starts.old work.old result starts.new work.new }
 {
-    let at = index_of(outlets[place]);
-    let end = NUMBERS_EACH * index_of(cells_held(subaccumulation[at]));
-    let p = search_at(
-        edition,
-        rows,
-        cols,
-        codes,
-        outlets,
-        subaccumulation,
-        dropping,
-        place,
-        work,
-    );
+    let at = filled.outlets[place] as usize;
+    let end = NUMBERS_EACH * cells_held(filled.subaccumulation[at]) as usize;
+    let p = search_at(filled, edition, dropping, place, work);
     list_starts(work, end, p.paths, starts);
     p
 }
@@ -153,10 +108,8 @@ pub fn list_at(
 // Traces an outlet of so many cells from pending cells, in a grid that holds the subaccumulation and comes back as it
 // was. The working numbers are cleared.
 fn by_stack(
-    edition: u32,
-    rows: usize,
-    cols: usize,
-    codes: &[u8],
+    edition: Edition,
+    grid: Grid,
     outlets: &[u32],
     subaccumulation: &mut [u32],
     dropping: bool,
@@ -165,53 +118,35 @@ fn by_stack(
     starts: &mut [u32],
     work: &mut [u32],
 ) -> Traced
-    requires fresh { Fresh rows cols codes.now outlets.now subaccumulation.old }
-    requires chosen { Chosen rows cols codes.now outlets.now place }
-    requires cells_value { (cells ≡ cells_of rows cols codes.now outlets.now place)
-        × (numbers_each * cells ≤ length work.old) }
-    ensures lists_and_clears { ListsAndClears (tracing_at rows cols codes.now outlets.now place edition
-        dropping)
-        starts.old (cells_of rows cols codes.now outlets.now place)
-        work.old result starts.new work.new }
+    requires fresh { Fresh grid outlets.now subaccumulation.old }
+    requires chosen { Chosen grid outlets.now place }
+    requires cells_value { (cells ≡ cells_of grid outlets.now place) × (numbers_each * cells ≤ length work.old) }
+    ensures lists_and_clears { ListsAndClears (tracing_at grid.entry outlets.now place edition dropping) starts.old
+        (cells_of grid.entry outlets.now place) work.old result starts.new work.new }
     ensures subaccumulation_unchanged { subaccumulation.new ≡ subaccumulation.old }
 {
     make_ready(
         edition,
-        rows,
-        cols,
-        codes,
+        grid,
         outlets,
         place,
         place + 1,
         subaccumulation,
         work,
     );
-    let p = list_at(
-        edition,
-        rows,
-        cols,
-        codes,
+    let filled = FilledGrid {
+        grid,
         outlets,
         subaccumulation,
-        dropping,
-        place,
-        starts,
-        work,
-    );
-    make_plain(edition, rows * cols, subaccumulation);
-    let end = NUMBERS_EACH * index_of(cells);
+    };
+    let p = list_at(filled, edition, dropping, place, starts, work);
+    make_plain(edition, grid.rows * grid.cols, subaccumulation);
+    let end = NUMBERS_EACH * cells as usize;
     clear(end, work);
     answer_for(p, starts.len())
 }
 
-// The first of 10 to 18 that fails, and else, once the grid is filled, the cells of the chosen subwatershed.
-#[derive(Clone, Copy)]
-pub struct Prepared {
-    pub number: u32,
-    pub cells: u32,
-}
-
-// What comes before either engine: 10, 11, 12, 14 to 18, and then the grid is filled.
+// What comes before either engine: 10, 11, 12, 14 to 18, and then the grid is filled. The cells of the chosen subwatershed.
 fn prepare(
     rows: usize,
     cols: usize,
@@ -220,25 +155,15 @@ fn prepare(
     outlets: &[u32],
     place: usize,
     subaccumulation: &mut [u32],
-) -> Prepared
+) -> Result<u32, Refusal>
     ensures { Prepares
         (catchment rows cols codes.now accumulation.now outlets.now) place
         subaccumulation.old result subaccumulation.new }
 {
     let lengths = [accumulation.len(), subaccumulation.len()];
-    let first = place_number(rows, cols, codes, accumulation, outlets, place, &lengths);
-    if first != 0 {
-        return Prepared {
-            number: first,
-            cells: 0,
-        };
-    }
-    fill(rows, cols, codes, outlets, subaccumulation);
-    let at = index_of(outlets[place]);
-    Prepared {
-        number: 0,
-        cells: subaccumulation[at],
-    }
+    check_place(rows, cols, codes, accumulation, outlets, place, &lengths)?;
+    fill(Grid { rows, cols, codes }, outlets, subaccumulation);
+    Ok(subaccumulation[outlets[place] as usize])
 }
 
 // Traces all longest paths to an outlet of the list by an edition, with or without dropping, by recursion: 25, 10, 11,
@@ -261,10 +186,11 @@ pub fn trace_by_recursion(
         (lent subaccumulation.old starts.old)
         result (lent subaccumulation.new starts.new) }
 {
-    if !is_edition(edition) {
-        return refused(25);
-    }
-    let ready = prepare(
+    let edition = match Edition::try_from(edition) {
+        Ok(edition) => edition,
+        Err(refusal) => return refused(refusal),
+    };
+    let cells = match prepare(
         rows,
         cols,
         codes,
@@ -272,19 +198,17 @@ pub fn trace_by_recursion(
         outlets,
         place,
         subaccumulation,
-    );
-    let number = ready.number;
-    if number != 0 {
-        return refused(number);
+    ) {
+        Ok(cells) => cells,
+        Err(refusal) => return refused(refusal),
+    };
+    if cells > 4096 {
+        return refused(Refusal::TooManyCells);
     }
-    if 4096 < ready.cells {
-        return refused(19);
-    }
+    let grid = Grid { rows, cols, codes };
     by_recursion(
         edition,
-        rows,
-        cols,
-        codes,
+        grid,
         outlets,
         subaccumulation,
         dropping,
@@ -313,10 +237,11 @@ pub fn trace_by_stack(
         (lent subaccumulation.old starts.old) work.old
         result (lent subaccumulation.new starts.new) work.new }
 {
-    if !is_edition(edition) {
-        return refused(25);
-    }
-    let ready = prepare(
+    let edition = match Edition::try_from(edition) {
+        Ok(edition) => edition,
+        Err(refusal) => return refused(refusal),
+    };
+    let cells = match prepare(
         rows,
         cols,
         codes,
@@ -324,20 +249,17 @@ pub fn trace_by_stack(
         outlets,
         place,
         subaccumulation,
-    );
-    let number = ready.number;
-    if number != 0 {
-        return refused(number);
+    ) {
+        Ok(cells) => cells,
+        Err(refusal) => return refused(refusal),
+    };
+    if work.len() < NUMBERS_EACH * cells as usize {
+        return refused(Refusal::WorkingSpace);
     }
-    let cells = ready.cells;
-    if work.len() < NUMBERS_EACH * index_of(cells) {
-        return refused(20);
-    }
+    let grid = Grid { rows, cols, codes };
     by_stack(
         edition,
-        rows,
-        cols,
-        codes,
+        grid,
         outlets,
         subaccumulation,
         dropping,

@@ -4,21 +4,25 @@
 ghost use Rattle.std.specs.Prelude.{◌≡◌, map, ◌*◌, ◌≤◌, length, get_or};
 ghost use Rattle.lists.specs.Lists.{greatest_of};
 ghost use Rattle.lists.specs.Slices.{Within};
-ghost use Rattle.ground.specs.Grid.{grid_of};
 ghost use Rattle.search.specs.Tracing.{numbers_each};
+ghost use Rattle.answers.specs.Refusals.{refusal_number};
 ghost use Rattle.answers.specs.Entries.{catchment};
 ghost use Rattle.alloutlets.specs.AllOutlets.{most_cells, traced_all, lent_all, TracesAll};
-ghost use Rattle.noting.specs.Noting.{Fresh};
-ghost use Rattle.passes.specs.Passes.{Traceable, Searchable};
-ghost use Rattle.tracingall.specs.Searching.{SearchesAll};
+ghost use Rattle.moves.specs.Grids.{ground_of};
+ghost use Rattle.noting.specs.Grids.{Fresh};
+ghost use Rattle.passes.specs.Grids.{Traceable, Searchable};
+ghost use Rattle.tracingall.specs.Grids.{SearchesAll};
 
 use accumulation::subaccumulate;
 use alloutlets::TracedAll;
-use lists::{clear, index_of};
-use notes::is_edition;
+use answers::Refusal;
+use lists::clear;
+use moves::Grid;
+use notes::Edition;
 use noting::{make_plain, make_ready};
 use passes::{count_all, list_all};
 use stack::NUMBERS_EACH;
+use upstream::FilledGrid;
 
 // The most cells that an outlet of the list has, in a grid that holds the subaccumulation.
 fn most_cells(outlets: &[u32], subaccumulation: &[u32]) -> u32
@@ -26,76 +30,51 @@ fn most_cells(outlets: &[u32], subaccumulation: &[u32]) -> u32
     ensures { result
         ≡ greatest_of (map (λ o. get_or subaccumulation.now o 0) outlets.now) }
 {
-    let mut most: u32 = 0;
-    let mut j: usize = 0;
-    while j < outlets.len() {
-        let at = index_of(outlets[j]);
-        let cells = subaccumulation[at];
-        if most < cells {
-            most = cells;
-        }
-        j += 1;
+    let mut most = 0;
+    for outlet in outlets {
+        most = most.max(subaccumulation[*outlet as usize]);
     }
     most
 }
 
 // Past 23: all outlets are counted, and listed if there is room for all; then the working numbers are cleared.
 fn search_all(
-    edition: u32,
-    rows: usize,
-    cols: usize,
-    codes: &[u8],
-    outlets: &[u32],
-    subaccumulation: &[u32],
+    filled: FilledGrid,
+    edition: Edition,
     end: usize,
     starts: &mut [u32],
     counts: &mut [u32],
     work: &mut [u32],
 ) -> TracedAll
-    requires searchable { Searchable edition rows cols codes.now outlets.now subaccumulation.now work.old }
-    requires end_value { (end ≡ numbers_each * most_cells (grid_of rows cols codes.now) outlets.now)
-        × (length outlets.now ≤ length counts.old) }
-    ensures { SearchesAll edition (grid_of rows cols codes.now) outlets.now
-        starts.old counts.old work.old result starts.new counts.new
-        work.new }
+    requires searchable { Searchable edition filled work.old }
+    requires end_value { (end ≡ numbers_each * most_cells (ground_of filled.grid) filled.outlets.now)
+        × (length filled.outlets.now ≤ length counts.old) }
+    ensures { SearchesAll edition filled.entry.grid filled.entry.outlets.now starts.old counts.old work.old result
+        starts.new counts.new work.new }
 {
-    let s = count_all(edition, rows, cols, codes, outlets, subaccumulation, work);
-    let visited = s.visited;
-    let dropped = s.dropped;
-    if starts.len() < index_of(s.paths) {
+    let s = count_all(filled, edition, work);
+    if starts.len() < s.paths as usize {
         clear(end, work);
         return TracedAll {
-            number: 21,
-            visited,
-            dropped,
+            number: Refusal::StartsRoom.number(),
+            visited: s.visited,
+            dropped: s.dropped,
         };
     }
-    list_all(
-        edition,
-        rows,
-        cols,
-        codes,
-        outlets,
-        subaccumulation,
-        starts,
-        counts,
-        work,
-    );
+    list_all(filled, edition, starts, counts, work);
     clear(end, work);
     TracedAll {
         number: 0,
-        visited,
-        dropped,
+        visited: s.visited,
+        dropped: s.dropped,
     }
 }
 
 // The same in a grid that holds the subaccumulation, is made ready for the searches by the edition, and comes back as
 // it was.
 fn search_by(
-    edition: u32,
-    rows: usize,
-    cols: usize,
-    codes: &[u8],
+    edition: Edition,
+    grid: Grid,
     outlets: &[u32],
     subaccumulation: &mut [u32],
     end: usize,
@@ -103,49 +82,39 @@ fn search_by(
     counts: &mut [u32],
     work: &mut [u32],
 ) -> TracedAll
-    requires fresh { Fresh rows cols codes.now outlets.now subaccumulation.old }
-    requires traceable { Traceable rows cols codes.now outlets.now work.old }
-    requires end_value { (end ≡ numbers_each * most_cells (grid_of rows cols codes.now) outlets.now)
+    requires fresh { Fresh grid outlets.now subaccumulation.old }
+    requires traceable { Traceable grid outlets.now work.old }
+    requires end_value { (end ≡ numbers_each * most_cells (ground_of grid) outlets.now)
         × (length outlets.now ≤ length counts.old) }
-    ensures searches_all { SearchesAll edition (grid_of rows cols codes.now) outlets.now
-        starts.old counts.old work.old result starts.new counts.new
-        work.new }
+    ensures searches_all { SearchesAll edition grid.entry outlets.now starts.old counts.old work.old result
+        starts.new counts.new work.new }
     ensures subaccumulation_unchanged { subaccumulation.new ≡ subaccumulation.old }
 {
-    let many = outlets.len();
     make_ready(
         edition,
-        rows,
-        cols,
-        codes,
+        grid,
         outlets,
         0,
-        many,
+        outlets.len(),
         subaccumulation,
         work,
     );
-    let traced = search_all(
-        edition,
-        rows,
-        cols,
-        codes,
+    let filled = FilledGrid {
+        grid,
         outlets,
         subaccumulation,
-        end,
-        starts,
-        counts,
-        work,
-    );
-    make_plain(edition, rows * cols, subaccumulation);
+    };
+    let traced = search_all(filled, edition, end, starts, counts, work);
+    make_plain(edition, grid.rows * grid.cols, subaccumulation);
     traced
 }
 
-// Refused before the searches.
-fn refused_all(number: u32) -> TracedAll
-    ensures { result ≡ traced_all number 0 0 }
+// Refused before the searches. The answer keeps a number and no Result: 21 comes with the sums too.
+fn refused_all(refusal: Refusal) -> TracedAll
+    ensures { result ≡ traced_all (refusal_number refusal) 0 0 }
 {
     TracedAll {
-        number,
+        number: refusal.number(),
         visited: 0,
         dropped: 0,
     }
@@ -170,25 +139,24 @@ pub fn trace_all(
         (lent_all subaccumulation.old starts.old counts.old work.old) result
         (lent_all subaccumulation.new starts.new counts.new work.new) }
 {
-    if !is_edition(edition) {
-        return refused_all(25);
+    let edition = match Edition::try_from(edition) {
+        Ok(edition) => edition,
+        Err(refusal) => return refused_all(refusal),
+    };
+    if let Err(refusal) = subaccumulate(rows, cols, codes, accumulation, outlets, subaccumulation) {
+        return refused_all(refusal);
     }
-    let number = subaccumulate(rows, cols, codes, accumulation, outlets, subaccumulation);
-    if number != 0 {
-        return refused_all(number);
-    }
-    let end = NUMBERS_EACH * index_of(most_cells(outlets, subaccumulation));
+    let end = NUMBERS_EACH * most_cells(outlets, subaccumulation) as usize;
     if work.len() < end {
-        return refused_all(20);
+        return refused_all(Refusal::WorkingSpace);
     }
     if counts.len() < outlets.len() {
-        return refused_all(23);
+        return refused_all(Refusal::Room);
     }
+    let grid = Grid { rows, cols, codes };
     search_by(
         edition,
-        rows,
-        cols,
-        codes,
+        grid,
         outlets,
         subaccumulation,
         end,

@@ -18,10 +18,10 @@ use Rattle.ground.specs.Grid.{Grid, grid_of, cell_at, neighbour, next}
 use Rattle.ground.proofs.Cells.{code_inside, neighbour_at}
 use Rattle.ground.proofs.GridNetwork.{Stepped, stepped}
 use Rattle.moves.specs.Moves.{dir_at, shift_number, neighbour_of}
-use Rattle.moves.proofs.Spots.{size, inside, shift_le}
+use Rattle.moves.proofs.Spots.{size, inside}
 use Rattle.downstream.specs.Offsets.{place_by, offset_of, offsets_of}
 use Rattle.downstream.specs.Flowing.{Numbered}
-use Rattle.downstream.proofs.Steps.{place_in, offset_at, offset_small, shift_is, number_after}
+use Rattle.downstream.proofs.Steps.{place_in, offset_at, shift_is, number_after}
 use Rattle.traversal.specs.Turns.{HasNeighbour, HasNext}
 use Rattle.traversal.proofs.Traversing.{at_place}
 
@@ -103,15 +103,6 @@ module _ {rows cols row col at : ℕ} {codes offsets : List ℕ} (n : Numbered r
     pub number_is : at + get_or offsets k 0 ≡ y + (cols + 1)
     number_is = omega (arith, number_after rows cols row col (dir_at k) y by_shift, offset_is, n.is_at)
 
-    pub number_fits : at + get_or offsets k 0 < 4096 * 4096 + (2 * 4096 + 3)
-    number_fits = omega (
-      arith,
-      offset_is,
-      offset_small n.on.grid.sides.cols_small (dir_at k),
-      at_inside,
-      cells_small,
-    )
-
     pub neighbour_inside : y < rows * cols
     neighbour_inside = omega (arith, landed.is_cell, digits_lt landed.row_in landed.col_in)
 
@@ -128,14 +119,8 @@ module _ {rows cols row col x : ℕ} {codes offsets : List ℕ} (n : Numbered ro
     right_is : m.col ≡ shift_number (col_shift (dir_at k))
     right_is = ap (λ (a : Neighbour). a.col) is_m
 
-    pub row_fits : row + m.row < 4096 + 3
-    row_fits = omega (arith, shift_le (row_shift (dir_at k)), down_is, n.on.row_in, n.on.grid.sides.rows_small)
-
     pub row_some : 1 ≤ row + m.row
     row_some = omega (arith, to.is_row_lem, down_is)
-
-    pub col_fits : col + m.col < 4096 + 3
-    col_fits = omega (arith, shift_le (col_shift (dir_at k)), right_is, n.on.col_in, n.on.grid.sides.cols_small)
 
     pub col_some : 1 ≤ col + m.col
     col_some = omega (arith, to.is_col, right_is)

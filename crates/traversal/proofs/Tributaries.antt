@@ -3,7 +3,8 @@
 use mathlib.Core.Path.{◌≡◌, refl, sym, ap, ◌∙◌, subst}
 use mathlib.Core.Bool.{Bool, true, false, cond}
 use mathlib.Core.List.{List}
-use mathlib.Core.Option.{Option, none, some}
+use mathlib.Core.Option.{Option as Maybe, none, some}
+use Rattle.std.specs.Prelude.{Option, Some, None}
 use Prim.Native.Nat.{ℕ, ◌≤◌, ◌<◌, ◌^◌}
 use native.Mathlib.Omega.{arith}
 use lib.ListN.{get_or}
@@ -18,13 +19,13 @@ use Rattle.moves.specs.Moves.{dir_at}
 use Rattle.moves.specs.Walks.{if_flows_in, inflow_from}
 use Rattle.downstream.proofs.Steps.{place_small}
 use Rattle.traversal.specs.Traversal.{Tributary}
-use Rattle.traversal.specs.Turns.{if_unmarked, unmarked_from, NextTurn, HasNeighbour}
+use Rattle.traversal.specs.Turns.{if_unmarked, unmarked_from, Passed, NextTurn, HasNeighbour}
 use Rattle.traversal.proofs.Traversing.{at_place}
 use Rattle.traversal.proofs.Moving.{place_at}
 use Rattle.traversal.proofs.Turning.{is_unmarked}
 
 never : {P : Type 0} {y : ℕ} → none ≡ some y → P
-never e = let w : ◌≡◌ {A = ℕ} 0 1 = cc in absurd (omega arith)
+never e = cc
 
 -- what an inflow is
 record FlowsAt (g : Grid) (x : ℕ) (d : Dir) (y : ℕ) : Type 0 where
@@ -43,7 +44,7 @@ flows_at_lem g x d y e = by_place (neighbour g x d) refl
         subst (FlowsAt g x d) q (record { there = n; flows = f })
     by_test z n false f k = never (sym (rw f) ∙ k)
 
-    by_place : (o : Option ℕ) → neighbour g x d ≡ o → FlowsAt g x d y
+    by_place : (o : Maybe ℕ) → neighbour g x d ≡ o → FlowsAt g x d y
     by_place none n = never (sym (rw n) ∙ e)
     by_place (some z) n = by_test z n (flows_in g d (some z)) refl (sym (rw n) ∙ e)
 
@@ -63,14 +64,14 @@ unmarked_is g marks x d y e = go (inflow_from g x d) refl
         subst (Unmarked g marks x d) q (record { inflow = n; small = ltb-true (get_or marks z 0) (2 ^ 31) f })
     by_mark z n false f k = never k
 
-    go : (o : Option ℕ) → inflow_from g x d ≡ o → Unmarked g marks x d y
+    go : (o : Maybe ℕ) → inflow_from g x d ≡ o → Unmarked g marks x d y
     go none n = never (sym (ap (if_unmarked marks) n) ∙ e)
     go (some z) n = by_mark z n (ltb (get_or marks z 0) (2 ^ 31)) refl (sym (ap (if_unmarked marks) n) ∙ e)
 
 module _ (g : Grid) (outlets marks : List ℕ)
     (marked : (c : ℕ) → is_outlet g outlets c ≡ true → 2 ^ 31 ≤ get_or marks c 0)
     (unmarked : (c : ℕ) → c < cell_count g → is_outlet g outlets c ≡ false → get_or marks c 0 < 2 ^ 31)
-    {x k r : ℕ} (is_ground : ground g x ≡ true) (n : NextTurn g marks x k r) where
+    {x k : ℕ} {r : Option ℕ} (is_ground : ground g x ≡ true) (n : NextTurn g marks x k r) where
   abbrev Trib : Dir → ℕ → Type 0
   Trib d y = Tributary (next g) (is_outlet g outlets) x d y
 
@@ -88,39 +89,42 @@ module _ (g : Grid) (outlets marks : List ℕ)
       (ap (inflow_from g x) (at_place d) ∙ e)
       (unmarked y (ground_within g y ((network g).solid y h u.flows)) u.not_outlet)
 
-  passed_over : (d : Dir) (y : ℕ) → Trib d y → k ≤ place_of d → place_of d < r → ⊥
-  passed_over d y u i j = never (sym (n.passed.none_there (place_of d) i j) ∙ seen d y u)
+  passed_over : {m : ℕ} → Passed g marks x k m → (d : Dir) (y : ℕ) → Trib d y → k ≤ place_of d → place_of d < m → ⊥
+  passed_over p d y u i j = never (sym (p.none_there (place_of d) i j) ∙ seen d y u)
 
   -- none is ahead
-  pub none_ahead : 8 ≤ r → (d : Dir) (y : ℕ) → Tributary (next g) (is_outlet g outlets) x d y → k ≤ place_of d → ⊥
-  none_ahead l d y u i = passed_over d y u i (omega (arith, place_small d))
+  pub none_ahead : r ≡ None → (d : Dir) (y : ℕ) → Tributary (next g) (is_outlet g outlets) x d y → k ≤ place_of d → ⊥
+  none_ahead e d y u i = passed_over (n.all_passed e) d y u i (omega (arith, place_small d))
 
   -- one is found, and it is the next
-  module _ (l : r < 8) where
-    f : Unmarked g marks x (dir_at r) (n.found l).0
-    f = unmarked_is g marks x (dir_at r) (n.found l).0 (n.found l).1
+  module _ {m : ℕ} (e : r ≡ Some m) where
+    f : Unmarked g marks x (dir_at m) (n.found m e).0
+    f = unmarked_is g marks x (dir_at m) (n.found m e).0 (n.found m e).1
 
-    pub found_beside : HasNeighbour g x r
-    found_beside = ((n.found l).0, (flows_at_lem g x (dir_at r) (n.found l).0 f.inflow).there)
+    pub found_beside : HasNeighbour g x m
+    found_beside = ((n.found m e).0, (flows_at_lem g x (dir_at m) (n.found m e).0 f.inflow).there)
 
-    pub found_tributary : {y : ℕ} → neighbour g x (dir_at r) ≡ some y
-        → Tributary (next g) (is_outlet g outlets) x (dir_at r) y
-    found_tributary {y} e =
-        let a = flows_at_lem g x (dir_at r) (n.found l).0 f.inflow in
-        let p : some (n.found l).0 ≡ some y = sym a.there ∙ e in
-        let q : (n.found l).0 ≡ y = cc in
-        subst (Trib (dir_at r)) q (record {
-          flows = inflow_next g x (dir_at r) (n.found l).0 is_ground a.there a.flows;
-          not_outlet = go (is_outlet g outlets (n.found l).0) refl;
+    pub found_tributary : {y : ℕ} → neighbour g x (dir_at m) ≡ some y
+        → Tributary (next g) (is_outlet g outlets) x (dir_at m) y
+    found_tributary {y} h =
+        let a = flows_at_lem g x (dir_at m) (n.found m e).0 f.inflow in
+        let p : some (n.found m e).0 ≡ some y = sym a.there ∙ h in
+        let q : (n.found m e).0 ≡ y = cc in
+        subst (Trib (dir_at m)) q (record {
+          flows = inflow_next g x (dir_at m) (n.found m e).0 is_ground a.there a.flows;
+          not_outlet = go (is_outlet g outlets (n.found m e).0) refl;
         })
       where
-        go : (b : Bool) → is_outlet g outlets (n.found l).0 ≡ b → is_outlet g outlets (n.found l).0 ≡ false
-        go true e = absurd (omega (arith, marked (n.found l).0 e, f.small))
-        go false e = e
+        go : (b : Bool) → is_outlet g outlets (n.found m e).0 ≡ b → is_outlet g outlets (n.found m e).0 ≡ false
+        go true o = absurd (omega (arith, marked (n.found m e).0 o, f.small))
+        go false o = o
 
-    pub found_far : k ≤ place_of (dir_at r)
-    found_far = omega (arith, n.passed.at_least, place_at r l)
+    at_place_m : place_of (dir_at m) ≡ m
+    at_place_m = place_at m (n.is_turn m e)
+
+    pub found_far : k ≤ place_of (dir_at m)
+    found_far = omega (arith, (n.passed m e).at_least, at_place_m)
 
     pub found_next : (d : Dir) (y : ℕ) → Tributary (next g) (is_outlet g outlets) x d y → k ≤ place_of d
-        → place_of d < place_of (dir_at r) → ⊥
-    found_next d y u i j = passed_over d y u i (omega (arith, place_at r l))
+        → place_of d < place_of (dir_at m) → ⊥
+    found_next d y u i j = passed_over (n.passed m e) d y u i (omega (arith, at_place_m))

@@ -1,2 +1,3 @@
 pub mod Traversal
 pub mod Turns
+pub mod Grids

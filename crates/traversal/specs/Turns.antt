@@ -1,7 +1,7 @@
 -- Where the source is and what it turns to: the neighbours that flow in and are not marked.
 -- Assumes nothing.
-use Rattle.std.specs.Prelude.{◌≡◌, cond, List, ℕ, ◌+◌, ◌*◌, ◌≤◌, ◌<◌, ◌^◌, length, get_or, ltb}
-use Rattle.std.proofs.Math.Option.{Option, none, some}
+use Rattle.std.specs.Prelude.{◌≡◌, cond, List, ℕ, ◌+◌, ◌*◌, ◌≤◌, ◌<◌, ◌^◌, length, get_or, ltb, Bool, true, false, Option, Some, None}
+use Rattle.std.proofs.Math.Option.{Option as Maybe, none, some}
 use Rattle.traversal.specs.declared.Position.{Position}
 use Rattle.ground.specs.Compass.{Dir, opposite, place_of}
 use Rattle.ground.specs.Grid.{Grid, Link, grid_of, neighbour, next}
@@ -11,16 +11,24 @@ use Rattle.inflows.specs.Values.{Inner}
 use Rattle.downstream.specs.Flowing.{Numbered}
 
 -- a neighbour that flows in, if it has no mark
-abbrev pub if_unmarked : List ℕ → Option ℕ → Option ℕ
+abbrev pub if_unmarked : List ℕ → Maybe ℕ → Maybe ℕ
 if_unmarked marks none = none
 if_unmarked marks (some y) = cond (ltb (get_or marks y 0) (2 ^ 31)) (some y) none
 
-unfoldable pub unmarked_from : Grid → List ℕ → ℕ → Dir → Option ℕ
+unfoldable pub unmarked_from : Grid → List ℕ → ℕ → Dir → Maybe ℕ
 unmarked_from g marks x d = if_unmarked marks (inflow_from g x d)
+
+abbrev pub is_found : Maybe ℕ → Bool
+is_found none = false
+is_found (some y) = true
+
+-- is there one to turn to in the k-th direction?
+abbrev pub turns_to : Grid → List ℕ → ℕ → ℕ → Bool
+turns_to g marks x k = is_found (unmarked_from g marks x (dir_at k))
 
 -- a position on a lent grid with its offsets
 abbrev pub OnPosition : ℕ → ℕ → List ℕ → List ℕ → Position → Type 0
-OnPosition rows cols codes offsets p = Numbered rows cols codes offsets p.row p.col p.at
+OnPosition rows cols codes offsets p = Numbered rows cols codes offsets p.cell.row p.cell.col p.at
 
 -- and marks for each cell
 pub record Turning (rows cols : ℕ) (codes offsets marks : List ℕ) (p : Position) : Type 0 where
@@ -31,7 +39,7 @@ pub record Turning (rows cols : ℕ) (codes offsets marks : List ℕ) (p : Posit
 -- at a cell of which all eight neighbours are on the grid
 pub record InnerTurning (rows cols : ℕ) (codes offsets marks : List ℕ) (p : Position) : Type 0 where
   pub turning : Turning rows cols codes offsets marks p
-  pub inner : Inner rows cols p.row p.col
+  pub inner : Inner rows cols p.cell.row p.cell.col
 
 -- the neighbours from the k-th on to before another have none to turn to
 pub record Passed (g : Grid) (marks : List ℕ) (x k r : ℕ) : Type 0 where
@@ -39,10 +47,12 @@ pub record Passed (g : Grid) (marks : List ℕ) (x k r : ℕ) : Type 0 where
   pub at_most : r ≤ 8
   pub none_there : (j : ℕ) → k ≤ j → j < r → unmarked_from g marks x (dir_at j) ≡ none
 
--- and that other has; or it is the eighth, and there is none
-pub record NextTurn (g : Grid) (marks : List ℕ) (x k r : ℕ) : Type 0 where
-  pub passed : Passed g marks x k r
-  pub found : r < 8 → (y : ℕ) × (unmarked_from g marks x (dir_at r) ≡ some y)
+-- and that other has; or none of the eight has
+pub record NextTurn (g : Grid) (marks : List ℕ) (x k : ℕ) (r : Option ℕ) : Type 0 where
+  pub all_passed : r ≡ None → Passed g marks x k 8
+  pub passed : (n : ℕ) → r ≡ Some n → Passed g marks x k n
+  pub is_turn : (n : ℕ) → r ≡ Some n → n < 8
+  pub found : (n : ℕ) → r ≡ Some n → (y : ℕ) × (unmarked_from g marks x (dir_at n) ≡ some y)
 
 -- the k-th neighbour is on the grid
 abbrev pub HasNeighbour : Grid → ℕ → ℕ → Type 0

@@ -2,131 +2,84 @@
 // the tributary after the one that one came from. The marks tell where not to go.
 #![tactic(auto)]
 
-ghost use Rattle.std.specs.Prelude.{◌<◌};
-ghost use Rattle.ground.specs.Grid.{grid_of};
-ghost use Rattle.traversal.specs.Turns.{OnPosition, Turning, InnerTurning, NextTurn};
-ghost use Rattle.traversal.specs.Turns.{HasNeighbour, MovedTo, HasNext, WentDown};
+ghost use Rattle.std.specs.Prelude.{◌≡◌, ◌*◌, ◌<◌, ◌≤◌, length};
+ghost use Rattle.moves.specs.Grids.{On, number_in, ground_of};
+ghost use Rattle.traversal.specs.Turns.{turns_to, NextTurn, HasNeighbour, HasNext};
+ghost use Rattle.traversal.specs.Grids.{OnPosition, Turning, InnerTurning, MovedTo, WentDown};
 
+use cells::Cell;
 use downstream::place_of;
-use moves::{Spot, inflow_from, neighbour_at};
+use moves::{Grid, inflow_from, neighbour_at};
 
 // A cell with this in its mark is not entered from below.
 pub const MARK: u32 = 2147483648;
 
-// A cell, by its row, column and number, and the first of its neighbours that are still to be turned to.
+// A cell with its number, and the first of its neighbours that are still to be turned to.
 #[derive(Clone, Copy)]
 pub struct Position {
-    pub row: usize,
-    pub col: usize,
+    pub cell: Cell,
     pub at: usize,
     pub turn: usize,
 }
 
-// The next turn at an inner cell. No border is tested.
-fn inner_turn(
-    rows: usize,
-    cols: usize,
-    codes: &[u8],
-    offsets: &[usize; 8],
-    marks: &[u32],
-    p: Position,
-) -> usize
-    requires { InnerTurning rows cols codes.now offsets.now marks.now p }
-    ensures { NextTurn (grid_of rows cols codes.now) marks.now p.at p.turn result }
+// Is neighbour k of an inner cell still to be turned to? No border is tested.
+fn turns_inside(grid: Grid, offsets: &[usize; 8], marks: &[u32], p: Position, k: usize) -> bool
+    requires inner { InnerTurning grid offsets.now marks.now p }
+    requires k_bound { k < 8 }
+    ensures { result ≡ turns_to (ground_of grid.entry) marks.now p.at k }
 {
-    let x = p.at;
-    let mut n = p.turn;
-    while n < 8 {
-        let k = n;
-        n += 1;
-        let y = x + offsets[k] - (cols + 1);
-        let beside = neighbour_at(k);
-        let back = beside.back;
-        if codes[y] == back {
-            if marks[y] < MARK {
-                return k;
-            }
-        }
-    }
-    8
+    let y = p.at + offsets[k] - (grid.cols + 1);
+    grid.codes[y] == neighbour_at(k).back && marks[y] < MARK
 }
 
-// The next turn at any cell.
-fn edge_turn(
-    rows: usize,
-    cols: usize,
-    codes: &[u8],
-    offsets: &[usize; 8],
-    marks: &[u32],
-    p: Position,
-) -> usize
-    requires { Turning rows cols codes.now offsets.now marks.now p }
-    ensures { NextTurn (grid_of rows cols codes.now) marks.now p.at p.turn result }
+// Is neighbour k of any cell?
+fn turns_anywhere(grid: Grid, marks: &[u32], p: Position, k: usize) -> bool
+    requires on_cell { On grid p.cell × (p.at ≡ number_in grid p.cell) }
+    requires has_marks { grid.rows * grid.cols ≤ length marks.now }
+    ensures { result ≡ turns_to (ground_of grid.entry) marks.now p.at k }
 {
-    let x = p.at;
-    let row = p.row;
-    let col = p.col;
-    let mut n = p.turn;
-    while n < 8 {
-        let k = n;
-        n += 1;
-        if let Spot::On { row: r, col: c } = inflow_from(rows, cols, codes, row, col, k) {
-            let at = r * cols + c;
-            if marks[at] < MARK {
-                return k;
-            }
-        }
+    match inflow_from(grid, p.cell, k) {
+        Some(from) => marks[from.row * grid.cols + from.col] < MARK,
+        None => false,
     }
-    8
 }
 
-// The first neighbour that is still to be turned to, flows in and has no mark; 8 if there is none.
-pub fn next_turn(
-    rows: usize,
-    cols: usize,
-    codes: &[u8],
-    offsets: &[usize; 8],
-    marks: &[u32],
-    p: Position,
-) -> usize
-    requires { Turning rows cols codes.now offsets.now marks.now p }
-    ensures { NextTurn (grid_of rows cols codes.now) marks.now p.at p.turn result }
+// The first neighbour that is still to be turned to, flows in and has no mark.
+pub fn next_turn(grid: Grid, offsets: &[usize; 8], marks: &[u32], p: Position) -> Option<usize>
+    requires { Turning grid offsets.now marks.now p }
+    ensures { NextTurn (ground_of grid.entry) marks.now p.at p.turn result }
 {
-    if 1 <= p.row && p.row + 1 < rows && 1 <= p.col && p.col + 1 < cols {
-        return inner_turn(rows, cols, codes, offsets, marks, p);
+    let cell = p.cell;
+    if 1 <= cell.row && cell.row + 1 < grid.rows && 1 <= cell.col && cell.col + 1 < grid.cols {
+        return (p.turn..8).find(|k| turns_inside(grid, offsets, marks, p, *k));
     }
-    edge_turn(rows, cols, codes, offsets, marks, p)
+    (p.turn..8).find(|k| turns_anywhere(grid, marks, p, *k))
 }
 
 // The position at neighbour k.
-pub fn moved(
-    rows: usize,
-    cols: usize,
-    codes: &[u8],
-    offsets: &[usize; 8],
-    p: Position,
-    k: usize,
-    turn: usize,
-) -> Position
-    requires on_position { OnPosition rows cols codes.now offsets.now p }
-    requires k_bound { (k < 8) × HasNeighbour (grid_of rows cols codes.now) p.at k }
-    ensures { MovedTo rows cols codes.now offsets.now p k turn result }
+pub fn moved(grid: Grid, offsets: &[usize; 8], p: Position, k: usize, turn: usize) -> Position
+    requires on_position { OnPosition grid offsets.now p }
+    requires k_bound { (k < 8) × HasNeighbour (ground_of grid) p.at k }
+    ensures { MovedTo grid.entry offsets.now p k turn result }
 {
     let n = neighbour_at(k);
-    let row = p.row + n.row - 1;
-    let col = p.col + n.col - 1;
-    let at = p.at + offsets[k] - (cols + 1);
-    Position { row, col, at, turn }
+    let row = p.cell.row + n.row - 1;
+    let col = p.cell.col + n.col - 1;
+    let at = p.at + offsets[k] - (grid.cols + 1);
+    Position {
+        cell: Cell { row, col },
+        at,
+        turn,
+    }
 }
 
 // The position at the cell below, after the neighbour that one came from.
-pub fn below(rows: usize, cols: usize, codes: &[u8], offsets: &[usize; 8], p: Position) -> Position
-    requires on_position { OnPosition rows cols codes.now offsets.now p }
-    requires has_next { HasNext (grid_of rows cols codes.now) p.at }
-    ensures { WentDown rows cols codes.now offsets.now p result }
+pub fn below(grid: Grid, offsets: &[usize; 8], p: Position) -> Position
+    requires on_position { OnPosition grid offsets.now p }
+    requires has_next { HasNext (ground_of grid) p.at }
+    ensures { WentDown grid.entry offsets.now p result }
 {
-    let x = p.at;
-    let k = place_of(codes[x]);
+    let k = place_of(grid.codes[p.at]);
     let turn = (k + 4) % 8 + 1;
-    moved(rows, cols, codes, offsets, p, k, turn)
+    moved(grid, offsets, p, k, turn)
 }

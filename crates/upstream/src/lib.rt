@@ -3,92 +3,64 @@
 
 ghost use Rattle.std.specs.Prelude.{◌≡◌, true, ◌<◌};
 ghost use Rattle.ground.specs.Compass.{opposite, step_of};
-ghost use Rattle.moves.specs.Lent.{OnCell};
 ghost use Rattle.moves.specs.Moves.{dir_at};
-ghost use Rattle.moves.specs.Walks.{FlowsFrom};
-ghost use Rattle.inflows.specs.Values.{Inner, InnerOn};
-ghost use Rattle.upstream.specs.Turns.{SaidInner, TurnsTo};
+ghost use Rattle.moves.specs.Grids.{On, FlowsIn};
+ghost use Rattle.inflows.specs.Values.{Inner};
+ghost use Rattle.inflows.specs.Grids.{InnerOn};
+ghost use Rattle.upstream.specs.Turns.{SaidInner};
+ghost use Rattle.upstream.specs.Grids.{TurnsTo};
 
+use cells::Cell;
+pub use filled::FilledGrid;
 use lengths::Step;
 use lists::is_among;
-use moves::{Spot, inflow_from, neighbour_at};
+use moves::{Grid, inflow_from, neighbour_at};
+
+mod filled;
 
 // Is this a cell of which all eight neighbours are on the grid?
-pub fn is_inner(rows: usize, cols: usize, row: usize, col: usize) -> bool
-    requires { (row < rows) × (col < cols) }
-    ensures { SaidInner result rows cols row col × (Inner rows cols row col → result ≡ true) }
+pub fn is_inner(rows: usize, cols: usize, cell: Cell) -> bool
+    requires { (cell.row < rows) × (cell.col < cols) }
+    ensures { SaidInner result rows cols cell.row cell.col × (Inner rows cols cell.row cell.col → result ≡ true) }
 {
-    if row < 1 {
-        return false;
-    }
-    if col < 1 {
-        return false;
-    }
-    if rows <= row + 1 {
-        return false;
-    }
-    col + 1 < cols
+    1 <= cell.row && cell.row + 1 < rows && 1 <= cell.col && cell.col + 1 < cols
 }
 
 // Neighbour k of an inner cell, if it flows in. No border is tested.
-fn inner_inflow(rows: usize, cols: usize, codes: &[u8], row: usize, col: usize, k: usize) -> Spot
-    requires { InnerOn rows cols codes.now row col }
-    ensures { FlowsFrom rows cols codes.now row col k result }
+fn inner_inflow(grid: Grid, cell: Cell, k: usize) -> Option<Cell>
+    requires { InnerOn grid cell }
+    ensures { FlowsIn grid.entry cell k result }
 {
     let n = neighbour_at(k);
-    let r = row + n.row - 1;
-    let c = col + n.col - 1;
-    let at = r * cols + c;
-    let back = n.back;
-    if codes[at] != back {
-        return Spot::Off;
+    let row = cell.row + n.row - 1;
+    let col = cell.col + n.col - 1;
+    if grid.codes[row * grid.cols + col] != n.back {
+        return None;
     }
-    Spot::On { row: r, col: c }
+    Some(Cell { row, col })
 }
 
 // Neighbour k of a cell that may be known as an inner one, if it flows in.
-fn inflow(
-    inner: bool,
-    rows: usize,
-    cols: usize,
-    codes: &[u8],
-    row: usize,
-    col: usize,
-    k: usize,
-) -> Spot
-    requires { OnCell rows cols codes.now row col × SaidInner inner rows cols row col }
-    ensures { FlowsFrom rows cols codes.now row col k result }
+fn inflow(inner: bool, grid: Grid, cell: Cell, k: usize) -> Option<Cell>
+    requires { On grid cell × SaidInner inner grid.rows grid.cols cell.row cell.col }
+    ensures { FlowsIn grid.entry cell k result }
 {
     if inner {
-        return inner_inflow(rows, cols, codes, row, col, k);
+        return inner_inflow(grid, cell, k);
     }
-    inflow_from(rows, cols, codes, row, col, k)
+    inflow_from(grid, cell, k)
 }
 
 // Neighbour k of a cell that may be known as an inner one, if it flows in and is no outlet.
-pub fn tributary(
-    inner: bool,
-    rows: usize,
-    cols: usize,
-    codes: &[u8],
-    outlets: &[u32],
-    row: usize,
-    col: usize,
-    k: usize,
-) -> Spot
-    requires { OnCell rows cols codes.now row col × SaidInner inner rows cols row col }
-    ensures { TurnsTo rows cols codes.now outlets.now row col k result }
+pub fn tributary(inner: bool, grid: Grid, outlets: &[u32], cell: Cell, k: usize) -> Option<Cell>
+    requires { On grid cell × SaidInner inner grid.rows grid.cols cell.row cell.col }
+    ensures { TurnsTo grid.entry outlets.now cell k result }
 {
-    match inflow(inner, rows, cols, codes, row, col, k) {
-        Spot::Off => Spot::Off,
-        Spot::On { row: r, col: c } => {
-            let at = r * cols + c;
-            if is_among(outlets, 0, at) {
-                return Spot::Off;
-            }
-            Spot::On { row: r, col: c }
-        }
+    let from = inflow(inner, grid, cell, k)?;
+    if is_among(outlets, 0, from.row * grid.cols + from.col) {
+        return None;
     }
+    Some(from)
 }
 
 // The step of neighbour k down to the cell: straight and diagonal by turns, from the east on.
@@ -96,10 +68,7 @@ pub fn step_at(k: usize) -> Step
     ensures { result ≡ step_of (opposite (dir_at k)) }
 {
     match k {
-        0 => Step::Straight,
-        2 => Step::Straight,
-        4 => Step::Straight,
-        6 => Step::Straight,
+        0 | 2 | 4 | 6 => Step::Straight,
         _ => Step::Diagonal,
     }
 }

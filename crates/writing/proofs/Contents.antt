@@ -13,11 +13,10 @@ use Rattle.lists.specs.Lists.{all_below}
 use Rattle.ground.specs.Tables.{table1, is_code}
 use Rattle.answers.specs.Checks.{first_failed, all_pass, check23}
 use Rattle.answers.proofs.FirstFailed.{handed_on}
-use Rattle.spelling.specs.declared.Written.{Written}
 use Rattle.spelling.specs.Content.{Content}
 use Rattle.spelling.specs.Format.{spelling}
 use Rattle.spelling.specs.Reading.{are_sheet_sides}
-use Rattle.spelling.specs.Writing.{content_checks, write_answer, write_number}
+use Rattle.spelling.specs.Writing.{WrittenTold, content_checks, write_answer, write_number}
 use Rattle.spelling.proofs.Records.{all_first}
 use Rattle.spelling.proofs.Writable.{spellable, spellable_passes}
 use Rattle.spelling.proofs.Sizes.{spelling_length}
@@ -86,7 +85,7 @@ module _ (c : Content) where
   -- ---- 23
 
   pub content_refused : (k : ℕ) → k ≡ checked → (k ≡ 0 → ⊥) → (file : List ℕ)
-      → ◌≡◌ {A = Written} (record { number = k; length = 0 }) (write_answer c file)
+      → ◌≡◌ {A = WrittenTold} (record { number = k; length = 0 }) (write_answer c file)
   unfolding write_answer write_number
   content_refused k e f file =
       let n = handed_on (content_checks c) (check23 (spelling c) file ∷ []) e f in rw (← n, ne_eqb k 0 f)
@@ -102,7 +101,7 @@ module _ (c : Content) where
     size_is = omega (arith, spelling_length c (spellable c [] e).grid.has_codes)
 
     pub no_room : (file : List ℕ) → length file < size c
-        → ◌≡◌ {A = Written} (record { number = 23; length = 0 }) (write_answer c file)
+        → ◌≡◌ {A = WrittenTold} (record { number = 23; length = 0 }) (write_answer c file)
     unfolding write_answer write_number first_failed check23
     no_room file h =
         rw (
@@ -111,7 +110,7 @@ module _ (c : Content) where
         )
 
     pub has_room : (file : List ℕ) → size c ≤ length file
-        → ◌≡◌ {A = Written} (record { number = 0; length = size c }) (write_answer c file)
+        → ◌≡◌ {A = WrittenTold} (record { number = 0; length = size c }) (write_answer c file)
     unfolding write_answer write_number first_failed check23
     has_room file h =
         rw (

@@ -13,16 +13,15 @@ use Rattle.cells.specs.Numbers.{RowAndColumn}
 use Rattle.cells.proofs.Numbers.{is_row_lem, is_col}
 use Rattle.spelling.specs.Format.{row_record, outlet_record, row_records, outlet_records}
 use Rattle.spelling.proofs.Sizes.{rows_length, outlets_length}
-use Rattle.writing.specs.declared.Cursor.{Cursor}
 use Rattle.writing.specs.Puts.{Puts}
 
 -- nothing is put
-pub puts_none : {here : Cursor} {l : List ℕ} → Puts [] here.at l here l
+pub puts_none : {here : ℕ} {l : List ℕ} → Puts [] here l here l
 puts_none = record { lands = omega arith; holds = refl }
 
 -- bytes after other bytes
-pub puts_then : {xs ys l l₁ l₂ : List ℕ} {at : ℕ} {here next : Cursor} → Puts xs at l here l₁
-    → Puts ys here.at l₁ next l₂ → Puts (xs ++ ys) at l next l₂
+pub puts_then : {xs ys l l₁ l₂ : List ℕ} {at : ℕ} {here next : ℕ} → Puts xs at l here l₁
+    → Puts ys here l₁ next l₂ → Puts (xs ++ ys) at l next l₂
 puts_then {xs} {ys} {l} {l₁} {l₂} {at} p q = record {
   lands = omega (arith, p.lands, q.lands, length-append xs ys);
   holds = q.holds ∙ rw (p.holds, p.lands) (sets_after xs ys l at);
@@ -58,8 +57,8 @@ rows_next cols row codes =
     let e : row * cols + cols - row * cols ≡ cols = omega arith in
     rw (add-one row, e) (rows_more cols 0 row codes ∙ rw (zero-add row))
 
-pub rows_land : (cols row : ℕ) (codes : List ℕ) {l m : List ℕ} {here : Cursor}
-    → Puts (row_records cols 0 row codes) 6 l here m → row * cols ≤ length codes → here.at ≡ 6 + row * (4 + cols)
+pub rows_land : (cols row : ℕ) (codes : List ℕ) {l m : List ℕ} {here : ℕ}
+    → Puts (row_records cols 0 row codes) 6 l here m → row * cols ≤ length codes → here ≡ 6 + row * (4 + cols)
 rows_land cols row codes p h = omega (arith, p.lands, rows_length cols 0 row codes h)
 
 -- ---- outlets, one more at a time
@@ -76,7 +75,7 @@ unfolding outlet_records
 outlets_next cols k os h cell =
     rw (add-one k, take-suc os k 0 h, is_row_lem cell, is_col cell) (outlets_both cols (take k os) (get_or os k 0 ∷ []))
 
-pub outlets_land : (cols k : ℕ) (os : List ℕ) {at : ℕ} {l m : List ℕ} {here : Cursor}
-    → Puts (outlet_records cols (take k os)) at l here m → k ≤ length os → here.at ≡ at + 6 * k
+pub outlets_land : (cols k : ℕ) (os : List ℕ) {at : ℕ} {l m : List ℕ} {here : ℕ}
+    → Puts (outlet_records cols (take k os)) at l here m → k ≤ length os → here ≡ at + 6 * k
 outlets_land cols k os p h =
     omega (arith, p.lands, outlets_length cols (take k os), length-take-le k os h)

@@ -11,13 +11,13 @@ use lib.Dec.{ltb}
 use borrow.Author.Tests.{ltb-true, ne_eqb}
 use Rattle.lists.proofs.Overlaid.{sets_overlaid}
 use Rattle.answers.proofs.FirstFailed.{all_at}
-use Rattle.spelling.specs.declared.Written.{Written}
+use Rattle.std.specs.Prelude.{Result}
+use Rattle.answers.specs.declared.Refusal.{Refusal}
 use Rattle.spelling.specs.Content.{Content}
 use Rattle.spelling.specs.Format.{header_record, end_record, row_records, outlet_records, spelling}
-use Rattle.spelling.specs.Writing.{write_number, write_answer, write_leaves, Writes}
+use Rattle.spelling.specs.Writing.{WrittenTold, written_told, write_number, write_answer, write_leaves, Writes}
 use Rattle.spelling.proofs.Sizes.{spelling_length}
 use Rattle.spelling.proofs.Writable.{content_spellable, room}
-use Rattle.writing.specs.declared.Cursor.{Cursor}
 use Rattle.writing.specs.Puts.{Puts}
 use Rattle.writing.proofs.Puts.{puts_then}
 
@@ -49,15 +49,15 @@ module _ (c : Content) (file : List ℕ) where
       }
 
   -- header, rows, outlets and end, each after the other
-  pub sheet_put : {l₁ l₂ l₃ l₄ : List ℕ} {start tail end last : Cursor}
+  pub sheet_put : {l₁ l₂ l₃ l₄ : List ℕ} {start tail end last : ℕ}
       → Puts (header_record c.rows c.cols) 0 file start l₁
       → Puts (row_records c.cols 0 c.rows c.codes) 6 l₁ tail l₂
-      → Puts (outlet_records c.cols c.outlets) tail.at l₂ end l₃ → Puts end_record end.at l₃ last l₄
+      → Puts (outlet_records c.cols c.outlets) tail l₂ end l₃ → Puts end_record end l₃ last l₄
       → l₄ ≡ sets file 0 (spelling c)
   unfolding spelling
   sheet_put {l₁} {l₂} {start = start} {tail = tail} h r o e =
-      let s : start.at ≡ 6 = h.lands in
-      let rows : Puts (row_records c.cols 0 c.rows c.codes) start.at l₁ tail l₂ = rw s r in
+      let s : start ≡ 6 = h.lands in
+      let rows : Puts (row_records c.cols 0 c.rows c.codes) start l₁ tail l₂ = rw s r in
       (puts_then h (puts_then rows (puts_then o e))).holds
 
   -- the number handed back is that of the checks
@@ -69,21 +69,21 @@ module _ (c : Content) (file : List ℕ) where
       go zero e = rw e
       go (suc k) e = rw (e, ne_eqb (suc k) 0 (λ z. omega arith))
 
-  module _ (w : Written) (e : w ≡ write_answer c file) where
-    number_is : w.number ≡ write_number c file
-    number_is = ap (λ (x : Written). x.number) e ∙ answer_number
+  module _ (r : Result ℕ Refusal) (e : written_told r ≡ write_answer c file) where
+    number_is : (written_told r).number ≡ write_number c file
+    number_is = ap (λ (x : WrittenTold). x.number) e ∙ answer_number
 
     -- REFUSED: nothing changes
-    pub nothing_written : (w.number ≡ 0 → ⊥) → Writes c file w file
+    pub nothing_written : ((written_told r).number ≡ 0 → ⊥) → Writes c file r file
     unfolding write_leaves
     nothing_written f = record { answers = e; leaves = rw (ne_eqb (write_number c file) 0 (λ z. f (number_is ∙ z))) }
 
     -- ACCEPTED: the spelling is written
-    module _ (z : w.number ≡ 0) where
+    module _ (z : (written_told r).number ≡ 0) where
       pub accepted_number : write_number c file ≡ 0
       accepted_number = sym number_is ∙ z
 
-      pub sheet_written : {new : List ℕ} → new ≡ sets file 0 (spelling c) → Writes c file w new
+      pub sheet_written : {new : List ℕ} → new ≡ sets file 0 (spelling c) → Writes c file r new
       unfolding write_leaves
       sheet_written q = record {
         answers = e;

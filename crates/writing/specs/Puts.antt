@@ -2,9 +2,8 @@
 -- Assumes nothing.
 use Rattle.std.specs.Prelude.{◌≡◌, List, ℕ, ◌+◌, length}
 use Rattle.std.proofs.lemmas.List.Edits.{sets}
-use Rattle.writing.specs.declared.Cursor.{Cursor}
 
 -- the bytes stand at a place, with the rest kept, and the answer is the place after them
-pub record Puts (bytes : List ℕ) (at : ℕ) (old : List ℕ) (r : Cursor) (new : List ℕ) : Type 0 where
-  pub lands : r.at ≡ at + length bytes
+pub record Puts (bytes : List ℕ) (at : ℕ) (old : List ℕ) (r : ℕ) (new : List ℕ) : Type 0 where
+  pub lands : r ≡ at + length bytes
   pub holds : new ≡ sets old at bytes

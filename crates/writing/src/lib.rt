@@ -3,160 +3,133 @@
 
 ghost use Rattle.std.specs.Prelude.{◌≡◌, List, [], ◌∷◌, ◌++◌, ℕ, ◌+◌, ◌*◌, ◌≤◌, ◌<◌, length, get_or, ltb};
 ghost use Rattle.std.proofs.lemmas.List.Edits.{sets};
+ghost use Rattle.answers.specs.Refusals.{number_told};
 ghost use Rattle.answers.specs.Checks.{first_failed, all_pass};
 ghost use Rattle.spelling.specs.Content.{content};
-ghost use Rattle.spelling.specs.Format.{mark, marked, two_bytes, row_record, row_records, outlet_records, spelling};
-ghost use Rattle.spelling.specs.Writing.{content_checks, write_number, write_answer, Writes};
+ghost use Rattle.spelling.specs.Format.{two_bytes, row_record, row_records, outlet_records, spelling};
+ghost use Rattle.spelling.specs.Writing.{content_checks, written_told, write_number, write_answer, Writes};
 ghost use Rattle.writing.specs.Puts.{Puts};
 
+use answers::Refusal;
 use cells::split_number;
-use lists::{copy, index_of};
-use spelling::{Written, are_sheet_sides};
+use spelling::are_sheet_sides;
 use tables::all_ours;
-
-// A place in a file, in bytes from its start.
-#[derive(Clone, Copy)]
-struct Cursor {
-    at: usize,
-}
 
 // 7: is each outlet a cell number?
 fn are_cells(outlets: &[u32], cells: usize) -> bool
     ensures { result ≡ all_pass (λ o. ltb o cells) outlets.now }
 {
-    let mut k: usize = 0;
-    while k < outlets.len() {
-        if index_of(outlets[k]) >= cells {
-            return false;
-        }
-        k += 1;
-    }
-    true
+    outlets.iter().all(|&outlet| (outlet as usize) < cells)
 }
 
 // Judges a content: 2, 3, 5, 8, 7.
-fn content_number(rows: usize, cols: usize, codes: &[u8], outlets: &[u32]) -> u32
-    ensures { result ≡ first_failed (content_checks (content rows cols codes.now outlets.now)) }
+fn check_content(rows: usize, cols: usize, codes: &[u8], outlets: &[u32]) -> Result<(), Refusal>
+    ensures { number_told result ≡ first_failed (content_checks (content rows cols codes.now outlets.now)) }
 {
     if !are_sheet_sides(rows, cols) {
-        return 2;
+        return Err(Refusal::SheetSides);
     }
     let cells = rows * cols;
     if codes.len() < cells {
-        return 3;
+        return Err(Refusal::SheetRoom);
     }
     if !all_ours(codes, cells) {
-        return 5;
+        return Err(Refusal::SheetCode);
     }
     if outlets.len() > 256 {
-        return 8;
+        return Err(Refusal::OutletCount);
     }
     if !are_cells(outlets, cells) {
-        return 7;
+        return Err(Refusal::OutletOutside);
     }
-    0
+    Ok(())
 }
 
-// Judges a content and the room for its file, in bytes: 2, 3, 5, 8, 7, 23.
-fn judge_content(rows: usize, cols: usize, codes: &[u8], outlets: &[u32], room: usize) -> Written
+// Judges a content and the room for its file, in bytes, and answers with the file's length: 2, 3, 5, 8, 7, 23.
+fn judge_content(
+    rows: usize,
+    cols: usize,
+    codes: &[u8],
+    outlets: &[u32],
+    room: usize,
+) -> Result<u32, Refusal>
     ensures { (file : List ℕ) → length file ≡ room
-        → result ≡ write_answer (content rows cols codes.now outlets.now) file }
+        → written_told result ≡ write_answer (content rows cols codes.now outlets.now) file }
 {
-    let number = content_number(rows, cols, codes, outlets);
-    if number != 0 {
-        return Written { number, length: 0 };
-    }
+    check_content(rows, cols, codes, outlets)?;
     let length = 8 + rows * (4 + cols) + 6 * outlets.len();
     if room < length {
-        return Written {
-            number: 23,
-            length: 0,
-        };
+        return Err(Refusal::Room);
     }
-    Written {
-        number: 0,
-        length: length as u32,
-    }
+    Ok(length as u32)
 }
 
-impl Cursor {
-    // Puts two bytes here; the answer is the place after them.
-    fn put(self, file: &mut [u8], first: u8, second: u8) -> Cursor
-        requires { self.at + 2 ≤ length file.old }
-        ensures { Puts (first ∷ second ∷ []) self.at file.old result file.new }
-    {
-        let at = self.at;
-        let after = at + 2;
-        file[at] = first;
-        file[at + 1] = second;
-        Cursor { at: after }
-    }
+// Puts bytes at a place; the answer is the place after them.
+fn put(file: &mut [u8], at: usize, bytes: &[u8]) -> usize
+    requires { at + length bytes.now ≤ length file.old }
+    ensures { Puts bytes.now at file.old result file.new }
+{
+    let end = at + bytes.len();
+    file[at..end].copy_from_slice(bytes);
+    end
+}
 
-    // Puts a number, low byte first.
-    fn put_number(self, file: &mut [u8], n: usize) -> Cursor
-        requires { (self.at + 2 ≤ length file.old) × (n < 65536) }
-        ensures { Puts (two_bytes n) self.at file.old result file.new }
-    {
-        self.put(file, (n % 256) as u8, (n / 256) as u8)
-    }
+// Puts a number, low byte first.
+fn put_number(file: &mut [u8], at: usize, n: usize) -> usize
+    requires { (at + 2 ≤ length file.old) × (n < 65536) }
+    ensures { Puts (two_bytes n) at file.old result file.new }
+{
+    put(file, at, &(n as u16).to_le_bytes())
 }
 
 // Puts a record of two numbers, with this mark.
-fn put_pair(file: &mut [u8], here: Cursor, first: u8, second: u8, a: usize, b: usize) -> Cursor
-    requires { (here.at + 6 ≤ length file.old) × (a < 65536) × (b < 65536) }
-    ensures { Puts (marked (mark first second) (two_bytes a ++ two_bytes b)) here.at file.old
+fn put_pair(file: &mut [u8], at: usize, mark: &[u8; 2], a: usize, b: usize) -> usize
+    requires { (at + 6 ≤ length file.old) × (a < 65536) × (b < 65536) }
+    ensures { Puts (mark.now ++ (two_bytes a ++ two_bytes b)) at file.old
         result file.new }
 {
-    let after = here.put(file, first, second);
-    let middle = after.put_number(file, a);
-    middle.put_number(file, b)
+    let after = put(file, at, mark);
+    let middle = put_number(file, after, a);
+    put_number(file, middle, b)
 }
 
 // Puts the record of a row.
-fn put_row(file: &mut [u8], here: Cursor, row: usize, codes: &[u8]) -> Cursor
-    requires { (here.at + (4 + length codes.now) ≤ length file.old) × (row < 65536) }
-    ensures { Puts (row_record row codes.now) here.at file.old
+fn put_row(file: &mut [u8], at: usize, row: usize, codes: &[u8]) -> usize
+    requires { (at + (4 + length codes.now) ≤ length file.old) × (row < 65536) }
+    ensures { Puts (row_record row codes.now) at file.old
         result file.new }
 {
-    let after = here.put(file, b'R', b'W');
-    let middle = after.put_number(file, row);
-    let place = middle.at;
-    copy(codes, file, place);
-    let end = place + codes.len();
-    Cursor { at: end }
+    let after = put(file, at, b"RW");
+    let start = put_number(file, after, row);
+    put(file, start, codes)
 }
 
 // Puts all rows, after the header.
-fn put_rows(file: &mut [u8], codes: &[u8], rows: usize, cols: usize) -> Cursor
+fn put_rows(file: &mut [u8], codes: &[u8], rows: usize, cols: usize) -> usize
     requires { (6 + rows * (4 + cols) ≤ length file.old) × (rows * cols ≤ length codes.now) × (rows ≤ 64) }
     ensures { Puts (row_records cols 0 rows codes.now) 6 file.old result file.new }
 {
-    let mut here = Cursor { at: 6 };
-    let mut row: usize = 0;
-    while row < rows {
+    let mut at = 6;
+    for row in 0..rows {
         let start = row * cols;
-        let end = start + cols;
-        here = put_row(file, here, row, &codes[start..end]);
-        row += 1;
+        at = put_row(file, at, row, &codes[start..start + cols]);
     }
-    here
+    at
 }
 
 // Puts all outlets.
-fn put_outlets(file: &mut [u8], start: Cursor, outlets: &[u32], cols: usize) -> Cursor
-    requires { (start.at + 6 * length outlets.now ≤ length file.old) × (0 < cols)
+fn put_outlets(file: &mut [u8], start: usize, outlets: &[u32], cols: usize) -> usize
+    requires { (start + 6 * length outlets.now ≤ length file.old) × (0 < cols)
         × ((k : ℕ) → k < length outlets.now → get_or outlets.now k 0 < 65536) }
-    ensures { Puts (outlet_records cols outlets.now) start.at file.old
+    ensures { Puts (outlet_records cols outlets.now) start file.old
         result file.new }
 {
-    let mut here = start;
-    let mut k: usize = 0;
-    while k < outlets.len() {
-        let cell = split_number(cols, outlets[k]);
-        here = put_pair(file, here, b'O', b'T', cell.row, cell.col);
-        k += 1;
+    let mut at = start;
+    for &outlet in outlets {
+        let cell = split_number(cols, outlet);
+        at = put_pair(file, at, b"OT", cell.row, cell.col);
     }
-    here
+    at
 }
 
 // Puts a whole sheet.
@@ -165,22 +138,25 @@ fn put_sheet(rows: usize, cols: usize, codes: &[u8], outlets: &[u32], file: &mut
     ensures { file.new
         ≡ sets file.old 0 (spelling (content rows cols codes.now outlets.now)) }
 {
-    let start = Cursor { at: 0 };
-    put_pair(file, start, b'D', b'8', rows, cols);
+    put_pair(file, 0, b"D8", rows, cols);
     let tail = put_rows(file, codes, rows, cols);
     let end = put_outlets(file, tail, outlets, cols);
-    end.put(file, b'E', b'N');
+    put(file, end, b"EN");
 }
 
-// Writes a sheet: 2, 3, 5, 8, 7, 23. The content and the room are judged before a byte is written.
-pub fn write(rows: usize, cols: usize, codes: &[u8], outlets: &[u32], file: &mut [u8]) -> Written
+// Writes a sheet, and answers with the length of its file in bytes: 2, 3, 5, 8, 7, 23. The content and the room are
+// judged before a byte is written.
+pub fn write(
+    rows: usize,
+    cols: usize,
+    codes: &[u8],
+    outlets: &[u32],
+    file: &mut [u8],
+) -> Result<u32, Refusal>
     ensures { Writes (content rows cols codes.now outlets.now) file.old
         result file.new }
 {
-    let written = judge_content(rows, cols, codes, outlets, file.len());
-    if written.number != 0 {
-        return written;
-    }
+    let length = judge_content(rows, cols, codes, outlets, file.len())?;
     put_sheet(rows, cols, codes, outlets, file);
-    written
+    Ok(length)
 }

@@ -1,13 +1,9 @@
 -- `agreement::agrees_all` meets its contract. The loop's invariant: the equation holds at every cell before the row.
 -- Assumes nothing.
-use Prim.Native.Nat.{◌*◌, ◌-◌, ◌≤◌}
+use Prim.Native.Nat.{◌*◌}
 use Rattle.ground.specs.Grid.{grid_of}
 use Rattle.agreement.proofs.Rows.{AgreesBefore}
 use Rattle.agreement.proofs.agrees_all.Given as goal
 
 abbrev pub invariant-loop-row : goal.invariant-loop-row
-invariant-loop-row l =
-    (l.row ≤ l.rows) × AgreesBefore (grid_of l.rows l.cols l.codes) l.accumulation (l.row * l.cols)
-
-abbrev pub decreases-loop-row : goal.decreases-loop-row
-decreases-loop-row l = l.rows - l.row
+invariant-loop-row l = AgreesBefore (grid_of l.grid.rows l.grid.cols l.grid.codes.now) l.accumulation (l.row * l.grid.cols)

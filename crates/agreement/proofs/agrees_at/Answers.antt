@@ -9,31 +9,16 @@ use Rattle.agreement.proofs.Cells.{null_agrees, ground_agrees, inside}
 use Rattle.agreement.proofs.Sums.{record_small}
 use Rattle.agreement.proofs.agrees_at.Goals as goal
 
-pub overflow_mul-at : goal.overflow_mul-at
-overflow_mul-at c = omega (arith, inside c.requires)
-
-pub overflow_add-at : goal.overflow_add-at
-overflow_add-at c = omega (arith, inside c.requires)
-
-pub offset_bounds-accumulation-at : goal.offset_bounds-accumulation-at
-offset_bounds-accumulation-at c = omega (arith, inside c.requires)
-
-pub bounds-accumulation-at : goal.bounds-accumulation-at
-bounds-accumulation-at c = omega (arith, inside c.requires)
-
-pub bounds-codes-at : goal.bounds-codes-at
-bounds-codes-at c = omega (arith, inside c.requires)
-
-pub returns-then-codes-at-eq0 : goal.returns-then-codes-at-eq0
-returns-then-codes-at-eq0 c =
-    null_agrees _ _ (inside c.requires).0 c.args.accumulation.now c.wide-value.ensures.0
-    c.if-codes-at-eq0.true
+pub returns-then-grid-at-eq0 : goal.returns-then-grid-at-eq0
+returns-then-grid-at-eq0 c =
+    null_agrees _ _ (inside c.requires).0 c.args.accumulation.now c.from-value.ensures
+    c.if-grid-at-eq0.true
 
 -- what was added up is the record's sum
 sum_is : (c : goal.After-sum-sum) → let a = c.args in
     c.sum-sum.result
-    ≡ sum_of (inflow_record (grid_of a.rows a.cols a.codes.now) a.accumulation.now
-    (a.row * a.cols + a.col))
+    ≡ sum_of (inflow_record (grid_of a.grid.rows a.grid.cols a.grid.codes.now) a.accumulation.now
+    (a.cell.row * a.grid.cols + a.cell.col))
 sum_is c = c.sum-sum.ensures ∙ rw c.inflows_of.ensures
 
 pub overflow_add-result : goal.overflow_add-result
@@ -41,13 +26,13 @@ overflow_add-result c =
     omega (
       arith,
       sum_is c,
-      record_small (grid_of c.args.rows c.args.cols c.args.codes.now) c.args.accumulation.now
+      record_small (grid_of c.args.grid.rows c.args.grid.cols c.args.grid.codes.now) c.args.accumulation.now
           (λ y. omega (arith, c.type_inv.accumulation y))
-          (c.args.row * c.args.cols + c.args.col),
+          (c.args.cell.row * c.args.grid.cols + c.args.cell.col),
     )
 
 pub returns : goal.returns
 returns c =
     ground_agrees _ _ (inside c.requires).0 c.args.accumulation.now
-    c.wide-value.ensures.0
-    (sum_is c) c.if-codes-at-eq0.false
+    c.from-value.ensures
+    (sum_is c) c.if-grid-at-eq0.false

@@ -9,47 +9,32 @@ use Rattle.ground.specs.Grid.{grid_of, inflow_record}
 use Rattle.agreement.proofs.Cells.{null_agrees, ground_agrees, inside}
 use Rattle.agreement.proofs.Sums.{record_small}
 use Rattle.agreement.proofs.agrees_inside.Goals as goal
-use Rattle.agreement.proofs.agrees_inside.Goals.{then-codes-at-eq0, else-codes-at-eq0}
-
-pub overflow_mul-at : goal.overflow_mul-at
-overflow_mul-at c = omega (arith, inside c.requires.has)
-
-pub overflow_add-at : goal.overflow_add-at
-overflow_add-at c = omega (arith, inside c.requires.has)
-
-pub offset_bounds-accumulation-at : goal.offset_bounds-accumulation-at
-offset_bounds-accumulation-at c = omega (arith, inside c.requires.has)
-
-pub bounds-accumulation-at : goal.bounds-accumulation-at
-bounds-accumulation-at c = omega (arith, inside c.requires.has)
+use Rattle.agreement.proofs.agrees_inside.Goals.{then-grid-at-eq0, else-grid-at-eq0}
 
 -- what was added up is the record's sum
-sum_is : (c : goal.After-sum-due) → let a = c.args in
-    c.sum-due.result
-    ≡ sum_of (inflow_record (grid_of a.rows a.cols a.codes.now) a.accumulation.now
-    (a.row * a.cols + a.col))
-sum_is c = c.sum-due.ensures ∙ rw c.inner_inflows.ensures
+sum_is : (c : goal.Else-grid-at-eq0) → let a = c.args in
+    c.sum-sum.result
+    ≡ sum_of (inflow_record (grid_of a.grid.rows a.grid.cols a.grid.codes.now) a.accumulation.now
+    (a.cell.row * a.grid.cols + a.cell.col))
+sum_is c = c.sum-sum.ensures ∙ rw c.inner_inflows.ensures
 
 pub overflow_add-due : goal.overflow_add-due
 overflow_add-due c =
     omega (
       arith,
       sum_is c,
-      record_small (grid_of c.args.rows c.args.cols c.args.codes.now) c.args.accumulation.now
+      record_small (grid_of c.args.grid.rows c.args.grid.cols c.args.grid.codes.now) c.args.accumulation.now
           (λ y. omega (arith, c.type_inv.accumulation y))
-          (c.args.row * c.args.cols + c.args.col),
+          (c.args.cell.row * c.args.grid.cols + c.args.cell.col),
     )
-
-pub bounds-codes-at : goal.bounds-codes-at
-bounds-codes-at c = omega (arith, inside c.requires.has)
 
 pub returns : goal.returns
 returns c =
-    let value = c.wide-value in
-    elim c.if-codes-at-eq0.branch [
-      | then-codes-at-eq0 w ↦ ap (eqb value.result) w.due-is
-          ∙ null_agrees _ _ (inside c.requires.has).0 c.args.accumulation.now value.ensures.0 w.if-codes-at-eq0.true
-      | else-codes-at-eq0 w ↦ ap (eqb value.result) w.due-is
-          ∙ ground_agrees _ _ (inside c.requires.has).0 c.args.accumulation.now value.ensures.0
-          (c.sum-due.ensures ∙ rw c.inner_inflows.ensures) w.if-codes-at-eq0.false
+    let value = c.from-value in
+    elim c.if-grid-at-eq0.branch [
+      | then-grid-at-eq0 w ↦ ap (eqb value.result) w.due-is
+          ∙ null_agrees _ _ (inside c.requires.has).0 c.args.accumulation.now value.ensures w.if-grid-at-eq0.true
+      | else-grid-at-eq0 w ↦ ap (eqb value.result) w.due-is
+          ∙ ground_agrees _ _ (inside c.requires.has).0 c.args.accumulation.now value.ensures
+          (c.sum-sum.ensures ∙ rw c.inner_inflows.ensures) w.if-grid-at-eq0.false
     ]

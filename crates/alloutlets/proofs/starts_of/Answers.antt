@@ -1,33 +1,23 @@
 -- `alloutlets::starts_of` meets its contract.
 -- Assumes nothing.
 use mathlib.Core.Path.{ap}
-use Prim.Native.Nat.{ℕ, ◌+◌, ◌≤◌}
+use Prim.Native.Nat.{ℕ}
 use native.Mathlib.Omega.{arith}
-use lib.ListN.{length}
 use borrow.Author.Rules.{rules}
 use Rattle.alloutlets.proofs.Parts.{part_within, part_begins, part_some, part_is}
 use Rattle.alloutlets.proofs.starts_of.Goals as goal
 
-pub overflow_add-end : goal.overflow_add-end
-overflow_add-end c = search (
-  rules,
-  (let held : let r = c.part_at-part.result in r.begin + r.count ≤ length c.args.starts.now = let a = c.args in
-      part_within a.starts.now a.counts.now a.choice c.part_at-part.ensures in held),
-)
+pub overflow_add-result : goal.overflow_add-result
+overflow_add-result c =
+    search (rules, part_within c.args.starts.now c.args.counts.now c.args.choice c.part_at-part.ensures)
 
-pub offset_bounds-starts-begin : goal.offset_bounds-starts-begin
-offset_bounds-starts-begin c = search (
-  rules,
-  (let held : let r = c.part_at-part.result in r.begin + r.count ≤ length c.args.starts.now = let a = c.args in
-      part_within a.starts.now a.counts.now a.choice c.part_at-part.ensures in held),
-)
+pub offset_bounds-starts-part : goal.offset_bounds-starts-part
+offset_bounds-starts-part c =
+    search (rules, part_within c.args.starts.now c.args.counts.now c.args.choice c.part_at-part.ensures)
 
 pub slice_bounds-result-end : goal.slice_bounds-result-end
-slice_bounds-result-end c = search (
-  rules,
-  (let held : let r = c.part_at-part.result in r.begin + r.count ≤ length c.args.starts.now = let a = c.args in
-      part_within a.starts.now a.counts.now a.choice c.part_at-part.ensures in held),
-)
+slice_bounds-result-end c =
+    search (rules, part_within c.args.starts.now c.args.counts.now c.args.choice c.part_at-part.ensures)
 
 pub returns : goal.returns
 returns c =

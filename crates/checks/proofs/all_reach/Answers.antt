@@ -1,20 +1,12 @@
--- `checks::all_reach` meets its contract. The loop's invariant: what is left from i on decides.
+-- `checks::all_reach` meets its contract: the closure computes the test.
 -- Assumes nothing.
-use mathlib.Core.Path.{refl}
-use borrow.Author.Tests.{lt-leb, le-leb}
-use Rattle.checks.proofs.Lists.{all_ends, all_breaks, all_goes_on}
+use Rattle.std.proofs.Common.{◌∙◌, leb, rules, tests}
+use Rattle.std.proofs.lemmas.Iterator.{YieldsList-from_slice}
+use Rattle.std.proofs.lemmas.Iterator.Search.{all_from_yields_List}
+use Rattle.checks.proofs.Lists.{all_pass_is}
 use Rattle.checks.proofs.all_reach.Goals as goal
 
-pub loop-i-init : goal.loop-i-init
-loop-i-init c = refl
-
-pub returns-then-lent-i : goal.returns-then-lent-i
-returns-then-lent-i c = all_breaks _ _ _ _ c.loop-i.invariant c.loop-i-test.true
-    (lt-leb _ _ c.if-lent-i.true)
-
-pub loop-i-preserved : goal.loop-i-preserved
-loop-i-preserved c = all_goes_on _ _ _ _ c.loop-i.invariant c.loop-i-test.true
-    (le-leb _ _ c.if-lent-i.false)
-
 pub returns : goal.returns
-returns c = all_ends _ _ _ _ c.loop-i.invariant c.loop-i-test.false
+returns c =
+    all_from_yields_List (leb c.args.n) _ _ _ c.all.ensures.ran (YieldsList-from_slice c.args.lent.now cc)
+    (λ x b q k. search (rules, tests)) ∙ all_pass_is (leb c.args.n) c.args.lent.now

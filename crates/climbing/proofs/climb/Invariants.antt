@@ -2,17 +2,18 @@
 -- length count double, and the steps to the outlet once. Assumes nothing.
 use Prim.Native.Nat.{◌+◌, ◌*◌, ◌%◌, ◌^◌}
 use lib.ListN.{get_or}
-use Rattle.answers.specs.FlowLengths.{length_grids}
+use Rattle.lengthgrids.specs.Grids.{held_by, SameGrids}
 use Rattle.climbing.specs.Giving.{blanks}
 use Rattle.climbing.proofs.Climbing.{Standing}
 use Rattle.climbing.proofs.climb.Given as goal
 
-abbrev pub invariant-loop-p : goal.invariant-loop-p
-invariant-loop-p l =
-    Standing l.rows l.cols l.codes l.outlets l.steps l.place l.p.row l.p.col l.p.at l.p.turn
-    (length_grids l.initial.ds l.initial.dd l.initial.us l.initial.ud)
-    (length_grids l.ds l.dd l.us l.ud)
+abbrev pub invariant-loop-k : goal.invariant-loop-k
+invariant-loop-k l =
+    SameGrids l.initial.grids l.grids
+    × Standing l.grid.rows l.grid.cols l.grid.codes.now l.outlets l.steps l.place l.p.cell.row l.p.cell.col l.p.at l.p.turn
+    (held_by l.initial.grids) (held_by l.grids)
 
-abbrev pub decreases-loop-p : goal.decreases-loop-p
-decreases-loop-p l =
-    2 * blanks (l.rows * l.cols) l.ds l.dd + (get_or l.ds l.p.at 0 + get_or l.dd l.p.at 0 % 2 ^ 31)
+abbrev pub decreases-loop-k : goal.decreases-loop-k
+decreases-loop-k l =
+    2 * blanks (l.grid.rows * l.grid.cols) l.grids.down_straight.now l.grids.down_diagonal.now
+    + (get_or l.grids.down_straight.now l.p.at 0 + get_or l.grids.down_diagonal.now l.p.at 0 % 2 ^ 31)

@@ -1,19 +1,13 @@
 -- `climbing::climb_all` meets its contract. The invariant: the subwatersheds of the first j outlets are left.
 -- Assumes nothing.
-use Prim.Native.Nat.{◌*◌, ◌-◌, ◌≤◌}
-use lib.ListN.{length}
+use Prim.Native.Nat.{◌*◌}
 use Rattle.ground.specs.Grid.{grid_of}
-use Rattle.answers.specs.FlowLengths.{length_grids}
-use Rattle.lengthgrids.specs.Grids.{GridsKept}
+use Rattle.lengthgrids.specs.Grids.{held_by, SameGrids, GridsKept}
 use Rattle.climbing.specs.Giving.{Resting}
 use Rattle.climbing.proofs.climb_all.Given as goal
 
 abbrev pub invariant-loop-j : goal.invariant-loop-j
 invariant-loop-j l =
-    (l.j ≤ length l.outlets)
-    × Resting (grid_of l.rows l.cols l.codes) l.outlets l.j (length_grids l.ds l.dd l.us l.ud)
-    × GridsKept (l.rows * l.cols) (length_grids l.initial.ds l.initial.dd l.initial.us l.initial.ud)
-    (length_grids l.ds l.dd l.us l.ud)
-
-abbrev pub decreases-loop-j : goal.decreases-loop-j
-decreases-loop-j l = length l.outlets - l.j
+    SameGrids l.initial.grids l.grids
+    × Resting (grid_of l.grid.rows l.grid.cols l.grid.codes.now) l.outlets l.j (held_by l.grids)
+    × GridsKept (l.grid.rows * l.grid.cols) (held_by l.initial.grids) (held_by l.grids)

@@ -1,13 +1,9 @@
 -- `counting::count_all` meets its contract. The invariant: the rows before one are counted.
 -- Assumes nothing.
-use Prim.Native.Nat.{◌-◌, ◌*◌, ◌≤◌}
+use Prim.Native.Nat.{◌*◌}
 use Rattle.ground.specs.Grid.{grid_of}
 use Rattle.counting.specs.Counting.{Counts}
 use Rattle.counting.proofs.count_all.Given as goal
 
 abbrev pub invariant-loop-row : goal.invariant-loop-row
-invariant-loop-row l = (l.row ≤ l.rows)
-    × Counts (grid_of l.rows l.cols l.codes) (l.row * l.cols) l.initial.words l.words
-
-abbrev pub decreases-loop-row : goal.decreases-loop-row
-decreases-loop-row l = l.rows - l.row
+invariant-loop-row l = Counts (grid_of l.grid.rows l.grid.cols l.grid.codes.now) (l.row * l.grid.cols) l.initial.words l.words

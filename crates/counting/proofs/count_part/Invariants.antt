@@ -1,13 +1,8 @@
 -- `counting::count_part` meets its contract. The invariant: the part's cells before the column are counted.
 -- Assumes nothing.
-use Prim.Native.Nat.{◌-◌, ◌≤◌}
 use Rattle.ground.specs.Grid.{grid_of}
 use Rattle.counting.specs.Counting.{CountsRow}
 use Rattle.counting.proofs.count_part.Given as goal
 
 abbrev pub invariant-loop-col : goal.invariant-loop-col
-invariant-loop-col l = (l.from ≤ l.col)
-    × CountsRow (grid_of l.rows l.cols l.codes) l.row l.from l.col l.initial.words l.words
-
-abbrev pub decreases-loop-col : goal.decreases-loop-col
-decreases-loop-col l = l.cols - l.col
+invariant-loop-col l = CountsRow (grid_of l.grid.rows l.grid.cols l.grid.codes.now) l.row l.from l.col l.initial.words l.words

@@ -1,20 +1,17 @@
--- `divide::clear_notes` meets its contract. The invariant: the first i words have no notes.
+-- `divide::clear_notes` meets its contract. The invariant: the words so far have no notes.
 -- Assumes nothing.
-use borrow.Author.Rules.{rules}
+use native.Mathlib.Omega.{arith}
+use lib.Seq.{length-take-le}
 use Rattle.divide.proofs.Changing.{clears_none, clears_more, clears_all}
 use Rattle.divide.proofs.clear_notes.Goals as goal
 
-pub loop-i-init : goal.loop-i-init
-loop-i-init c = (search rules, clears_none)
+pub loop-word-init : goal.loop-word-init
+loop-word-init c = clears_none
 
-pub loop-i-preserved : goal.loop-i-preserved
-loop-i-preserved c = (
-  search rules,
-  clears_more c.loop-i-test.true c.requires c.loop-i.invariant.1,
-)
-
-pub shape_of-grid : goal.shape_of-grid
-shape_of-grid c = c.loop-i.invariant.1.kept.same_length
+pub loop-word-preserved : goal.loop-word-preserved
+loop-word-preserved c =
+    let e = length-take-le c.args.n c.args.words.now c.requires in
+    clears_more (omega arith) (omega arith) c.loop-word.invariant
 
 pub returns : goal.returns
-returns c = clears_all c.loop-i-test.false c.loop-i.invariant.1
+returns c = clears_all c.requires c.loop-word-test.false c.loop-word.invariant

@@ -1,39 +1,19 @@
--- `divide::inner_beside` meets its contract. The invariant: the neighbours that are left decide.
+-- `divide::inner_beside` meets its contract: some neighbour is outside.
 -- Assumes nothing.
-use native.Mathlib.Omega.{arith}
-use borrow.Author.Rules.{rules}
-use Rattle.moves.proofs.Spots.{size}
-use Rattle.divide.proofs.Beside.{beside_begins, beside_found, beside_goes_on, beside_ends}
+use mathlib.Core.Path.{refl}
+use Prim.Native.Nat.{◌+◌, ◌*◌}
+use Rattle.std.proofs.Common.{rules, tests}
+use Rattle.std.proofs.lemmas.Iterator.{YieldsList-from_range}
+use Rattle.std.proofs.lemmas.Iterator.Search.{any_from_yields_List}
+use Rattle.ground.specs.Grid.{grid_of, neighbour}
+use Rattle.moves.specs.Moves.{dir_at}
+use Rattle.divide.specs.Divides.{is_outside}
+use Rattle.divide.proofs.Beside.{beside_word, beside_any}
 use Rattle.divide.proofs.inner_beside.Goals as goal
 
-pub loop-k-init : goal.loop-k-init
-loop-k-init c = (search rules, beside_begins _ _ _)
-
-pub offset_bounds-grid-at : goal.offset_bounds-grid-at
-offset_bounds-grid-at c =
-    omega (
-      arith,
-      c.inner_neighbour-at.ensures.inside,
-      size c.requires.0.on.grid.sides,
-    )
-
-pub bounds-grid-at : goal.bounds-grid-at
-bounds-grid-at c =
-    omega (
-      arith,
-      c.inner_neighbour-at.ensures.inside,
-      c.requires.1,
-    )
-
-pub returns-then-grid-at-lt-INSIDE : goal.returns-then-grid-at-lt-INSIDE
-returns-then-grid-at-lt-INSIDE c = beside_found c.inner_neighbour-at.ensures _ c.if-grid-at-lt-INSIDE.true
-
-pub loop-k-preserved : goal.loop-k-preserved
-loop-k-preserved c = (
-  search rules,
-  beside_goes_on c.inner_neighbour-at.ensures _ c.loop-k-test.true
-      c.if-grid-at-lt-INSIDE.false c.loop-k.invariant.1,
-)
-
 pub returns : goal.returns
-returns c = beside_ends _ _ _ c.loop-k.invariant.0 c.loop-k-test.false c.loop-k.invariant.1
+returns c = let a = c.args in
+    beside_any _ _ _ (any_from_yields_List
+    (λ k. is_outside a.words.now (neighbour (grid_of a.grid.rows a.grid.cols a.grid.codes.now) (a.cell.row * a.grid.cols + a.cell.col) (dir_at k))) _ _ _
+    c.any.ensures.ran (YieldsList-from_range 0 8 _ refl refl)
+    (λ x b q k. search (rules, tests, beside_word)))

@@ -1,11 +1,7 @@
--- `divide::leave_cells` meets its contract. The invariant: the first k cells are left.
+-- `divide::leave_cells` meets its contract. The invariant: the cells so far are left.
 -- Assumes nothing.
-use Prim.Native.Nat.{◌-◌, ◌≤◌}
 use Rattle.divide.specs.Divides.{LeavesCells}
 use Rattle.divide.proofs.leave_cells.Given as goal
 
-abbrev pub invariant-loop-k : goal.invariant-loop-k
-invariant-loop-k l = (l.k ≤ l.n) × LeavesCells l.rows l.cols l.k l.list l.initial.grid l.grid
-
-abbrev pub decreases-loop-k : goal.decreases-loop-k
-decreases-loop-k l = l.n - l.k
+abbrev pub invariant-loop-number : goal.invariant-loop-number
+invariant-loop-number l = LeavesCells l.grid.rows l.grid.cols l.number-index l.list l.initial.words l.words

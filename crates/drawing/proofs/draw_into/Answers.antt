@@ -1,23 +1,29 @@
--- `drawing::draw_into` meets its contract: where there is something to write the drawing is accepted.
+-- `drawing::draw_into` meets its contract: what is judged is written or refused.
 -- Assumes nothing.
 use Rattle.answers.specs.Drawing.{drawing_of}
 use Rattle.drawing.proofs.Accepted.{nothing_written, drawable, cells_written}
 use Rattle.drawing.proofs.draw_into.Goals as goal
 
-pub returns-then-drawn-eq0 : goal.returns-then-drawn-eq0
-returns-then-drawn-eq0 c =
+pub returns-in_err-count : goal.returns-in_err-count
+returns-in_err-count c =
     let a = c.args in
     let q = drawing_of a.rows a.cols a.codes.now a.accumulation.now a.outlets.now a.place a.start in
-    nothing_written q a.path.now c.judge-drawn.ensures c.if-drawn-eq0.true
+    nothing_written q a.path.now c.from_residual.result c.from_residual.ensures.1 c.in_err-count.ensures
+
+pub invariant_of-grid : goal.invariant_of-grid
+invariant_of-grid c =
+    let a = c.args in
+    let q = drawing_of a.rows a.cols a.codes.now a.accumulation.now a.outlets.now a.place a.start in
+    record { lent = (drawable q a.path.now c.in_ok-count.ensures).grid }
 
 pub write_cells-requires : goal.write_cells-requires
 write_cells-requires c =
     let a = c.args in
     let q = drawing_of a.rows a.cols a.codes.now a.accumulation.now a.outlets.now a.place a.start in
-    drawable q a.path.now c.judge-drawn.ensures c.if-drawn-eq0.false
+    drawable q a.path.now c.in_ok-count.ensures
 
 pub returns : goal.returns
 returns c =
     let a = c.args in
     let q = drawing_of a.rows a.cols a.codes.now a.accumulation.now a.outlets.now a.place a.start in
-    cells_written q a.path.now c.judge-drawn.ensures c.if-drawn-eq0.false c.write_cells.ensures
+    cells_written q a.path.now c.in_ok-count.ensures c.write_cells.ensures

@@ -1,13 +1,9 @@
--- `drawing::write_cells` meets its contract. The invariant: the cells that are no longer left are written, and the walk
--- is at the next.
+-- `drawing::write_cells` meets its contract. The invariant: so many cells are written, and the walk is at the next.
 -- Assumes nothing.
-use Rattle.ground.specs.Grid.{grid_of}
+use Rattle.moves.specs.Grids.{ground_of}
 use Rattle.drawing.proofs.Writing.{Writing}
 use Rattle.drawing.proofs.write_cells.Given as goal
 
-abbrev pub invariant-loop-left : goal.invariant-loop-left
-invariant-loop-left l =
-    Writing (grid_of l.rows l.cols l.codes) l.start l.count l.initial.path l.path l.walk l.left
-
-abbrev pub decreases-loop-left : goal.decreases-loop-left
-decreases-loop-left l = l.left
+abbrev pub invariant-loop-place : goal.invariant-loop-place
+invariant-loop-place l =
+    Writing (ground_of l.grid) l.start l.initial.place-items l.place-items l.walk l.place-index

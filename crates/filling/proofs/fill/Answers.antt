@@ -1,6 +1,6 @@
 -- `filling::fill` meets its contract: what each pass leaves is what the next asks.
 -- Assumes nothing.
-use mathlib.Core.Path.{sym, ◌∙◌}
+use mathlib.Core.Path.{sym}
 use Rattle.lists.proofs.Kept.{kept_then}
 use Rattle.counting.proofs.Rows.{counting_kept}
 use Rattle.filling.proofs.Kept.{fillable_kept}
@@ -20,14 +20,14 @@ look_at_all-done-requires c =
     let f = fillable_kept k c.requires in
     record { fillable = f; looked = looked_begin f c.flag.ensures.flags }
 
-pub returns-then-index_of-n : goal.returns-then-index_of-n
-returns-then-index_of-n c =
+pub returns-then-done-n : goal.returns-then-done-n
+returns-then-done-n c =
     let k = kept_then (kept_then (counting_kept c.count_all.ensures.counting) c.flag.ensures.keeps)
     c.look_at_all-done.ensures.keeps in
     let f = fillable_kept k c.requires in
     record {
       answers = sym (waits_ring f _ c.look_at_all-done.ensures.looks
-          (λ d. c.if-index_of-n.true (c.index_of.ensures.0 ∙ d)));
+          (λ d. c.if-done-n.true d));
       leaves = cleared_filled f k c.clear.ensures;
     }
 
@@ -43,7 +43,7 @@ returns c =
     let k = kept_then (kept_then (counting_kept c.count_all.ensures.counting) c.flag.ensures.keeps)
     c.look_at_all-done.ensures.keeps in
     let f = fillable_kept k c.requires in
-    let d = sym c.index_of.ensures.0 ∙ c.if-index_of-n.false in
+    let d = c.if-done-n.false in
     let p = c.look_at_all-done.ensures.looks in
     record {
       answers = sym (settled_free f _ p d);

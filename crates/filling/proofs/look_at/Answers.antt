@@ -6,11 +6,11 @@ use Rattle.filling.proofs.Kept.{at_inside}
 use Rattle.filling.proofs.Descents.{looked_small, look_none, look_no, look_yes}
 use Rattle.filling.proofs.look_at.Goals as goal
 
-pub offset_bounds-words-at : goal.offset_bounds-words-at
-offset_bounds-words-at c = omega (arith, at_inside c.requires.fillable_at)
+pub offset_bounds-words-here : goal.offset_bounds-words-here
+offset_bounds-words-here c = omega (arith, at_inside c.requires.fillable_at)
 
-pub bounds-words-at : goal.bounds-words-at
-bounds-words-at c = omega
+pub bounds-words-here : goal.bounds-words-here
+bounds-words-here c = omega
     (arith, at_inside c.requires.fillable_at, c.requires.fillable_at.fillable.has_words)
 
 pub overflow_add-result : goal.overflow_add-result

@@ -6,9 +6,9 @@ use Rattle.filling.specs.Filling.{Going}
 use Rattle.filling.proofs.Descents.{ahead}
 use Rattle.filling.proofs.walk_down.Given as goal
 
-abbrev pub invariant-loop-s : goal.invariant-loop-s
-invariant-loop-s l = Going
-    (grid_of l.rows l.cols l.codes) l.outlets l.looked l.n l.initial.words l.words l.s
+abbrev pub invariant-loop-next : goal.invariant-loop-next
+invariant-loop-next l = Going
+    (grid_of l.grid.rows l.grid.cols l.grid.codes.now) l.outlets l.looked l.done l.initial.words l.words l.next
 
-abbrev pub decreases-loop-s : goal.decreases-loop-s
-decreases-loop-s l = ahead l.s (sum_of l.words)
+abbrev pub decreases-loop-next : goal.decreases-loop-next
+decreases-loop-next l = ahead l.next (sum_of l.words)

@@ -3,19 +3,13 @@
 -- Assumes nothing.
 use mathlib.Core.Path.{sym, ◌∙◌}
 use native.Mathlib.Omega.{arith}
-use lib.Arith.{digits_lt}
-use Rattle.moves.proofs.Spots.{size}
 use Rattle.flowpath.proofs.Following.{outlets_in, begun, few_steps, marked_at, on_grid}
 use Rattle.flowpath.proofs.Following.{arrived, elsewhere, lost, one_step, goes_on}
 use Rattle.flowpath.proofs.follow.Goals as goal
 
-pub walk_from-walk-requires : goal.walk_from-walk-requires
-walk_from-walk-requires c = c.requires.surveyed.some_cols
-
 pub loop-walk-init : goal.loop-walk-init
 loop-walk-init c =
-    rw c.index_of-cell.ensures.0
-    (begun c.requires.surveyed c.args.outlet c.args.start c.requires.start_value c.walk_from-walk.ensures)
+    begun c.requires.surveyed c.args.outlet c.args.start c.requires.start_value c.walk_from-walk.ensures
 
 pub meets_outlet-requires : goal.meets_outlet-requires
 meets_outlet-requires c = marked_at c.loop-walk.invariant c.requires.surveyed
@@ -24,21 +18,9 @@ pub returns-then-cell-outlet : goal.returns-then-cell-outlet
 returns-then-cell-outlet c =
     elsewhere c.loop-walk.invariant (sym c.meets_outlet.ensures ∙ c.if-meets_outlet.true) c.if-cell-outlet.true
 
-pub overflow_add-length : goal.overflow_add-length
-overflow_add-length c =
-    let s = c.requires.surveyed in
-    omega (arith, size s.grid.sides, few_steps c.loop-walk.invariant s)
-
-pub overflow_add-result : goal.overflow_add-result
-overflow_add-result c = omega (arith, c.index_of.ensures.1)
-
 pub returns-then-meets_outlet : goal.returns-then-meets_outlet
 returns-then-meets_outlet c =
-    omega (
-      arith,
-      c.index_of.ensures.0,
-      arrived c.loop-walk.invariant (sym c.meets_outlet.ensures ∙ c.if-meets_outlet.true) c.if-cell-outlet.false,
-    )
+    arrived c.loop-walk.invariant (sym c.meets_outlet.ensures ∙ c.if-meets_outlet.true) c.if-cell-outlet.false
 
 pub mark_after-mark-requires : goal.mark_after-mark-requires
 mark_after-mark-requires c =
@@ -47,18 +29,6 @@ mark_after-mark-requires c =
 
 pub step-walk-requires : goal.step-walk-requires
 step-walk-requires c = on_grid c.loop-walk.invariant c.requires.surveyed
-
-pub overflow_mul-to : goal.overflow_mul-to
-overflow_mul-to c =
-    let s = c.requires.surveyed in
-    let on = c.step-walk.ensures in
-    omega (arith, size s.grid.sides, digits_lt on.row_in on.col_in)
-
-pub overflow_add-to : goal.overflow_add-to
-overflow_add-to c =
-    let s = c.requires.surveyed in
-    let on = c.step-walk.ensures in
-    omega (arith, size s.grid.sides, digits_lt on.row_in on.col_in)
 
 pub returns-then-to-cell : goal.returns-then-to-cell
 returns-then-to-cell c =

@@ -8,8 +8,9 @@ use Rattle.flowpath.proofs.follow.Given as goal
 
 abbrev pub invariant-loop-walk : goal.invariant-loop-walk
 invariant-loop-walk l =
-    Following (catchment l.rows l.cols l.codes l.accumulation l.outlets) l.outlet l.start l.walk l.cell l.mark
+    let land = catchment l.grid.rows l.grid.cols l.grid.codes.now l.accumulation l.outlets in
+    Following land l.outlet l.start l.walk l.cell l.mark
 
 abbrev pub decreases-loop-walk : goal.decreases-loop-walk
 decreases-loop-walk l =
-    l.rows * l.cols - (l.walk.length.straight + l.walk.length.diagonal)
+    l.grid.rows * l.grid.cols - (l.walk.length.straight + l.walk.length.diagonal)

@@ -7,7 +7,7 @@ use Rattle.gathering.proofs.gather.Given as goal
 
 abbrev pub invariant-loop-k : goal.invariant-loop-k
 invariant-loop-k l =
-    Gathered l.rows l.cols l.codes l.outlets (l.row * l.cols + l.col) l.initial.grid l.initial.list l.n l.k l.grid l.list
+    Gathered l.grid.rows l.grid.cols l.grid.codes.now l.outlets (l.fn.cell.row * l.grid.cols + l.fn.cell.col) l.initial.words l.initial.list l.n l.k l.words l.list
 
 abbrev pub decreases-loop-k : goal.decreases-loop-k
 decreases-loop-k l = length l.initial.list - l.k

@@ -1,6 +1,5 @@
 -- `gathering::list_inflows` meets its contract: the first k directions are listed, and then the next.
 -- Assumes nothing.
-use Prim.Native.Nat.{◌≤◌, ◌-◌}
 use lib.ListN.{take}
 use Rattle.ground.specs.Compass.{dirs}
 use Rattle.gathering.specs.Gathering.{ListsFrom}
@@ -8,7 +7,4 @@ use Rattle.gathering.proofs.list_inflows.Given as goal
 
 abbrev pub invariant-loop-k : goal.invariant-loop-k
 invariant-loop-k l =
-    (l.k ≤ 8) × ListsFrom l.rows l.cols l.codes l.outlets l.row l.col (take l.k dirs) l.n l.initial.grid l.initial.list l.end l.grid l.list
-
-abbrev pub decreases-loop-k : goal.decreases-loop-k
-decreases-loop-k l = 8 - l.k
+    ListsFrom l.grid.rows l.grid.cols l.grid.codes.now l.outlets l.cell.row l.cell.col (take l.k dirs) l.n l.initial.words l.initial.list l.end l.words l.list

@@ -9,4 +9,4 @@ pub overflow_cast-drawn : goal.overflow_cast-drawn
 overflow_cast-drawn c =
     let a = c.args in
     let q = drawing_of a.rows a.cols a.codes.now a.accumulation.now a.outlets.now a.place a.start in
-    omega (arith, c.draw_into-d.ensures.counts, drawn_few q a.path.now)
+    omega (arith, c.in-Ok.ensures.counts, drawn_few q a.path.now)

@@ -1,22 +1,8 @@
 -- `lines::put_outlet` meets its contract.
 -- Assumes nothing.
-use mathlib.Core.Path.{◌∙◌}
 use Rattle.lines.specs.Line.{outlet_line}
 use Rattle.lines.proofs.Appending.{appends_both}
 use Rattle.lines.proofs.put_outlet.Goals as goal
-
-pub shape_of-text : goal.shape_of-text
-shape_of-text c =
-    c.put_word.auto.text
-    ∙ c.put_labelled-i.auto.text
-    ∙ c.put_labelled-h.auto.text
-    ∙ c.put_labelled-g.auto.text
-    ∙ c.put_labelled-f.auto.text
-    ∙ c.put_labelled-e.auto.text
-    ∙ c.put_labelled-d.auto.text
-    ∙ c.put_labelled-c.auto.text
-    ∙ c.put_labelled-b.auto.text
-    ∙ c.put_labelled-a.auto.text
 
 pub returns : goal.returns
 unfolding outlet_line

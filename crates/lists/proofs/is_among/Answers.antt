@@ -1,19 +1,16 @@
--- `lists::is_among` meets its contract. The loop's invariant: what is left from k on decides.
+-- `lists::is_among` meets its contract: `any` answers whether a number after the skipped ones is x.
 -- Assumes nothing.
-use mathlib.Core.Path.{refl, sym, ◌∙◌}
-use Rattle.lists.proofs.Members.{member_ends, member_found, member_goes_on}
+use Rattle.std.proofs.Common.{rules, nat_eq, ◌∙◌, drop}
+use borrow.Author.Tests.{tests}
+use Rattle.std.proofs.lemmas.Iterator.{YieldsList-from_slice}
+use Rattle.std.proofs.lemmas.Iterator.Adapters.{YieldsList-from_skip}
+use Rattle.std.proofs.lemmas.Iterator.Search.{any_from_yields_List}
+use Rattle.lists.proofs.Members.{any_member}
 use Rattle.lists.proofs.is_among.Goals as goal
 
-pub loop-k-init : goal.loop-k-init
-loop-k-init c = refl
-
-pub returns-then-index_of-x : goal.returns-then-index_of-x
-returns-then-index_of-x c = member_found _ _ _ _ c.loop-k.invariant
-    c.loop-k-test.true (sym c.index_of.ensures.0 ∙ c.if-index_of-x.true)
-
-pub loop-k-preserved : goal.loop-k-preserved
-loop-k-preserved c = member_goes_on _ _ _ _ c.loop-k.invariant
-    c.loop-k-test.true (λ e. c.if-index_of-x.false (c.index_of.ensures.0 ∙ e))
-
 pub returns : goal.returns
-returns c = member_ends _ _ _ _ c.loop-k.invariant c.loop-k-test.false
+returns c =
+    let s = c.args in
+    any_from_yields_List (λ y. nat_eq y s.x) _ _ _ c.any.ensures.ran
+    (YieldsList-from_skip s.from (YieldsList-from_slice s.list.now cc) cc) (λ x b q k. search (rules, tests))
+    ∙ any_member s.x (drop s.from s.list.now)

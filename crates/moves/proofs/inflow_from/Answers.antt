@@ -1,41 +1,21 @@
 -- `moves::inflow_from` meets its contract: a law for each of the ways to look.
 -- Assumes nothing.
-use Prim.Native.Nat.{◌+◌, ◌*◌, ◌<◌}
 use native.Mathlib.Omega.{arith}
-use Rattle.moves.proofs.Spots.{size, spot_inside, neighbour_in_reach}
+use Rattle.moves.proofs.Spots.{spot_inside}
 use Rattle.moves.proofs.Inflow.{inflow_off, inflow_away, inflow_in_lem}
 use Rattle.moves.proofs.inflow_from.Goals as goal
 
-pub spot_at-requires : goal.spot_at-requires
-spot_at-requires c =
-    neighbour_in_reach c.requires c.args.k c.neighbour_at-n.ensures
+pub returns-in_err-beside : goal.returns-in_err-beside
+returns-in_err-beside c = rw c.from_residual.ensures
+    (inflow_off c.requires c.args.k c.neighbour_at-n.ensures c.spot_at.ensures c.in_err-beside.was)
 
--- the neighbour's place is that of a cell
-reached : (c : goal.In-On)
-    → c.in-On.r * c.args.cols + c.in-On.c
-    < c.args.rows * c.args.cols
-reached c = spot_inside c.spot_at.ensures c.in-On.is
+pub bounds-grid-beside : goal.bounds-grid-beside
+bounds-grid-beside c = omega (arith, spot_inside c.spot_at.ensures c.in_ok-beside.was, c.requires.grid.has_codes)
 
-pub overflow_mul-at : goal.overflow_mul-at
-overflow_mul-at c = omega (arith, reached c, size c.requires.grid.sides)
+pub returns-then-grid-beside : goal.returns-then-grid-beside
+returns-then-grid-beside c =
+    inflow_away c.requires c.args.k c.neighbour_at-n.ensures c.spot_at.ensures c.in_ok-beside.was c.if-grid-beside.true
 
-pub overflow_add-at : goal.overflow_add-at
-overflow_add-at c = omega (arith, reached c, size c.requires.grid.sides)
-
-pub bounds-codes-at : goal.bounds-codes-at
-bounds-codes-at c = omega (arith, (let held : c.in-On.r * c.args.cols + c.in-On.c < c.args.rows * c.args.cols = spot_inside c.spot_at.ensures c.in-On.is in held), c.requires.grid.has_codes)
-
-pub returns-then-codes-at : goal.returns-then-codes-at
-returns-then-codes-at c =
-    inflow_away c.requires c.args.k c.neighbour_at-n.ensures
-    c.spot_at.ensures c.in-On.is c.if-codes-at.true
-
-pub returns-in-Off : goal.returns-in-Off
-returns-in-Off c =
-    inflow_off c.requires c.args.k c.neighbour_at-n.ensures
-    c.spot_at.ensures c.in-Off.is
-
-pub returns-else-codes-at : goal.returns-else-codes-at
-returns-else-codes-at c =
-    inflow_in_lem c.requires c.args.k c.neighbour_at-n.ensures
-    c.spot_at.ensures c.in-On.is c.if-codes-at.false
+pub returns : goal.returns
+returns c =
+    inflow_in_lem c.requires c.args.k c.neighbour_at-n.ensures c.spot_at.ensures c.in_ok-beside.was c.if-grid-beside.false

@@ -3,6 +3,7 @@
 use native.Mathlib.Omega.{arith}
 use Rattle.lists.proofs.Kept.{kept_all}
 use Rattle.ground.specs.Grid.{grid_of}
+use Rattle.notes.specs.Notes.{edition_number}
 use Rattle.passes.proofs.Counting.{counting_none, counting_more, counting_fits, counted_all, few_counted}
 use Rattle.passes.proofs.Counting.{searchable_at, kept_search}
 use Rattle.passes.proofs.count_all.Goals as goal
@@ -10,62 +11,52 @@ use Rattle.passes.proofs.count_all.Goals as goal
 pub loop-place-init : goal.loop-place-init
 loop-place-init c =
     let a = c.args in
-    (omega arith, counting_none a.edition (grid_of a.rows a.cols a.codes.now) a.outlets.now, kept_all)
+    (counting_none (edition_number a.edition) (grid_of a.filled.grid.rows a.filled.grid.cols a.filled.grid.codes.now) a.filled.outlets.now, kept_all)
 
 pub search_at-p-requires : goal.search_at-p-requires
 search_at-p-requires c =
-    let s = searchable_at c.requires c.loop-place.invariant.2 c.loop-place.place c.loop-place-test.true in
+    let s = searchable_at c.requires c.loop-place.invariant.1 c.loop-place.place c.loop-place-test.true in
     record { ready = s.0; chosen = s.1.0; place_in_bounds = s.1.1 }
 
 pub overflow_add-s : goal.overflow_add-s
 overflow_add-s c =
-    let f = counting_fits c.args.edition (grid_of c.args.rows c.args.cols c.args.codes.now) c.args.outlets.now
-    c.loop-place-test.true c.loop-place.invariant.1 c.search_at-p.ensures c.requires.list.few_cells in
+    let a = c.args in
+    let f = counting_fits (edition_number a.edition) (grid_of a.filled.grid.rows a.filled.grid.cols a.filled.grid.codes.now) a.filled.outlets.now
+    c.loop-place-test.true c.loop-place.invariant.0 c.search_at-p.ensures c.requires.list.few_cells in
     omega (arith, f.0)
 
 pub overflow_add-s-in-loop-place : goal.overflow_add-s-in-loop-place
 overflow_add-s-in-loop-place c =
-    let f = counting_fits c.args.edition (grid_of c.args.rows c.args.cols c.args.codes.now) c.args.outlets.now
-    c.loop-place-test.true c.loop-place.invariant.1 c.search_at-p.ensures c.requires.list.few_cells in
+    let a = c.args in
+    let f = counting_fits (edition_number a.edition) (grid_of a.filled.grid.rows a.filled.grid.cols a.filled.grid.codes.now) a.filled.outlets.now
+    c.loop-place-test.true c.loop-place.invariant.0 c.search_at-p.ensures c.requires.list.few_cells in
     omega (arith, f.1)
 
 pub overflow_add-s-in-loop-place-2 : goal.overflow_add-s-in-loop-place-2
 overflow_add-s-in-loop-place-2 c =
-    let f = counting_fits c.args.edition (grid_of c.args.rows c.args.cols c.args.codes.now) c.args.outlets.now
-    c.loop-place-test.true c.loop-place.invariant.1 c.search_at-p.ensures c.requires.list.few_cells in
+    let a = c.args in
+    let f = counting_fits (edition_number a.edition) (grid_of a.filled.grid.rows a.filled.grid.cols a.filled.grid.codes.now) a.filled.outlets.now
+    c.loop-place-test.true c.loop-place.invariant.0 c.search_at-p.ensures c.requires.list.few_cells in
     omega (arith, f.1)
-
-pub overflow_add-place : goal.overflow_add-place
-overflow_add-place c =
-    omega (arith, c.loop-place-test.true, c.requires.list.few_outlets)
-
-pub loop-place-smaller : goal.loop-place-smaller
-loop-place-smaller c = omega (
-  arith,
-  c.loop-place-test.true,
-)
 
 pub loop-place-preserved : goal.loop-place-preserved
 loop-place-preserved c =
     let l = c.loop-place in
     let a = c.args in (
-      omega (arith, c.loop-place-test.true),
-      counting_more a.edition (grid_of a.rows a.cols a.codes.now) a.outlets.now c.loop-place-test.true
-          l.invariant.1
+      counting_more (edition_number a.edition) (grid_of a.filled.grid.rows a.filled.grid.cols a.filled.grid.codes.now) a.filled.outlets.now c.loop-place-test.true
+          l.invariant.0
           c.search_at-p.ensures,
-      kept_search c.requires.list l.invariant.2 c.loop-place-test.true c.search_at-p.ensures.only,
+      kept_search c.requires.list l.invariant.1 c.loop-place-test.true c.search_at-p.ensures.only,
     )
-
-pub shape_of-work : goal.shape_of-work
-shape_of-work c = c.loop-place.invariant.2.same_length
 
 pub returns : goal.returns
 returns c =
     let a = c.args in
-    let g = grid_of a.rows a.cols a.codes.now in
+    let g = grid_of a.filled.grid.rows a.filled.grid.cols a.filled.grid.codes.now in
+    let e = edition_number a.edition in
     let l = c.loop-place in
     record {
-      counts = counted_all a.edition g a.outlets.now c.loop-place-test.false l.invariant.1;
-      few_paths = few_counted a.edition g a.outlets.now c.loop-place-test.false l.invariant.1 c.requires.list.few_cells;
-      kept = l.invariant.2;
+      counts = counted_all e g a.filled.outlets.now c.loop-place-test.false l.invariant.0;
+      few_paths = few_counted e g a.filled.outlets.now c.loop-place-test.false l.invariant.0 c.requires.list.few_cells;
+      kept = l.invariant.1;
     }

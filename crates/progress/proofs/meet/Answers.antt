@@ -23,29 +23,29 @@ returns-then-p-eq0 c =
     (first_met a.work.now a.end a.cell a.len a.p c.requires.one_more c.requires.within
     c.if-p-eq0.true)
 
-pub returns-in-Shorter : goal.returns-in-Shorter
-returns-in-Shorter c =
+pub returns-in-Less : goal.returns-in-Less
+returns-in-Less c =
     let a = c.args in
     forgotten a.work.now a.end a.cell a.len a.p c.requires.one_more c.requires.within
     (met_shorter a.p.greatest (kept a.work.now a.end a.p.paths)
     (some_kept a.work.now a.end a.cell a.len a.p c.requires.one_more c.requires.within
     c.if-p-eq0.false) a.len a.cell
-    (sym c.compare.ensures ∙ c.in-Shorter.is))
+    (sym c.compare.ensures ∙ c.in-Less.is))
 
-pub returns-in-Longer : goal.returns-in-Longer
-returns-in-Longer c =
+pub returns-in-Greater : goal.returns-in-Greater
+returns-in-Greater c =
     let a = c.args in
-    let r = c.restart-in-Longer in
+    let r = c.restart-in-Greater in
     restarted a.work.now a.end a.cell a.len a.p c.requires.one_more c.requires.within r.result
     r.new.work r.ensures.0 r.ensures.1
     (met_longer a.p.greatest (kept a.work.now a.end a.p.paths)
     (some_kept a.work.now a.end a.cell a.len a.p c.requires.one_more c.requires.within
     c.if-p-eq0.false) a.len a.cell
     (sym c.compare.ensures
-    ∙ c.in-Longer.is))
+    ∙ c.in-Greater.is))
 
-pub returns-in-Same : goal.returns-in-Same
-returns-in-Same c =
+pub returns-in-Equal : goal.returns-in-Equal
+returns-in-Equal c =
     let a = c.args in
     let r = c.join in
     joined a.work.now a.end a.cell a.len a.p c.requires.one_more c.requires.within r.result
@@ -54,4 +54,4 @@ returns-in-Same c =
     (some_kept a.work.now a.end a.cell a.len a.p c.requires.one_more c.requires.within
     c.if-p-eq0.false) a.len a.cell
     (sym c.compare.ensures
-    ∙ c.in-Same.is))
+    ∙ c.in-Equal.is))

@@ -1,51 +1,55 @@
 -- `reading::read` meets its contract: refused, nothing is stored; accepted, all that the file holds.
 -- Assumes nothing.
+use mathlib.Core.Path.{◌≡◌, refl}
+use mathlib.Core.List.{List}
+use Prim.Native.Nat.{ℕ}
 use native.Mathlib.Omega.{arith}
-use Rattle.reading.proofs.Stored.{nothing_stored, storable}
+use lib.ListN.{length}
+use Rattle.std.specs.Prelude.{Ok}
+use Rattle.std.proofs.lemmas.Result.{err_from_is_err_and}
+use Rattle.answers.proofs.Refusals.{has_number}
+use Rattle.spelling.specs.declared.Sheet.{Sheet}
+use Rattle.spelling.specs.Reading.{sheet_told, read_answer}
+use Rattle.reading.proofs.Stored.{nothing_stored, Storable, storable}
 use Rattle.reading.proofs.read.Goals as goal
 
-pub returns-then-sheet-ne0 : goal.returns-then-sheet-ne0
-returns-then-sheet-ne0 c =
-    let a = c.args in
-    let j = c.judge-sheet in
-    nothing_stored a.file.now a.codes.now a.outlets.now j.result j.ensures c.if-sheet-ne0.true
+accepted : (file grid list : List ℕ) (s : Sheet) → sheet_told (Ok s) ≡ read_answer file (length grid) (length list)
+    → Storable file grid list (Ok s) s.rows s.cols s.outlets
+accepted file grid list s e = storable file grid list (Ok s) e refl s.rows s.cols s.outlets refl refl refl
 
-pub overflow_mul-after : goal.overflow_mul-after
-overflow_mul-after c =
+pub returns-in_err-sheet : goal.returns-in_err-sheet
+returns-in_err-sheet c =
     let a = c.args in
-    let j = c.judge-sheet in
-    let s = storable a.file.now a.codes.now a.outlets.now j.result j.ensures c.if-sheet-ne0.false _ _ _
-    c.index_of-rows.ensures.0 c.index_of-cols.ensures.0 c.index_of-count.ensures.0 in
+    let p = err_from_is_err_and c.from_residual.result c.from_residual.ensures.1 in
+    rw (p.1, p.2)
+    (nothing_stored a.file.now a.codes.now a.outlets.now _ c.in_err-sheet.ensures (has_number c.in_err-sheet.field-0.0))
+
+pub overflow_mul-tail : goal.overflow_mul-tail
+overflow_mul-tail c =
+    let a = c.args in
+    let s = accepted a.file.now a.codes.now a.outlets.now c.in_ok-sheet.sheet c.in_ok-sheet.ensures in
     omega (arith, s.few_bytes)
 
-pub overflow_add-after-2 : goal.overflow_add-after-2
-overflow_add-after-2 c =
+pub overflow_add-tail-2 : goal.overflow_add-tail-2
+overflow_add-tail-2 c =
     let a = c.args in
-    let j = c.judge-sheet in
-    let s = storable a.file.now a.codes.now a.outlets.now j.result j.ensures c.if-sheet-ne0.false _ _ _
-    c.index_of-rows.ensures.0 c.index_of-cols.ensures.0 c.index_of-count.ensures.0 in
+    let s = accepted a.file.now a.codes.now a.outlets.now c.in_ok-sheet.sheet c.in_ok-sheet.ensures in
     omega (arith, s.few_bytes)
 
 pub store_codes-requires : goal.store_codes-requires
 store_codes-requires c =
     let a = c.args in
-    let j = c.judge-sheet in
-    let s = storable a.file.now a.codes.now a.outlets.now j.result j.ensures c.if-sheet-ne0.false _ _ _
-    c.index_of-rows.ensures.0 c.index_of-cols.ensures.0 c.index_of-count.ensures.0 in
+    let s = accepted a.file.now a.codes.now a.outlets.now c.in_ok-sheet.sheet c.in_ok-sheet.ensures in
     (s.rows_fit, s.has_grid)
 
 pub store_outlets-requires : goal.store_outlets-requires
 store_outlets-requires c =
     let a = c.args in
-    let j = c.judge-sheet in
-    let s = storable a.file.now a.codes.now a.outlets.now j.result j.ensures c.if-sheet-ne0.false _ _ _
-    c.index_of-rows.ensures.0 c.index_of-cols.ensures.0 c.index_of-count.ensures.0 in
+    let s = accepted a.file.now a.codes.now a.outlets.now c.in_ok-sheet.sheet c.in_ok-sheet.ensures in
     (s.outlets_fit, s.has_list, s.cols_small)
 
 pub returns : goal.returns
 returns c =
     let a = c.args in
-    let j = c.judge-sheet in
-    let s = storable a.file.now a.codes.now a.outlets.now j.result j.ensures c.if-sheet-ne0.false _ _ _
-    c.index_of-rows.ensures.0 c.index_of-cols.ensures.0 c.index_of-count.ensures.0 in
+    let s = accepted a.file.now a.codes.now a.outlets.now c.in_ok-sheet.sheet c.in_ok-sheet.ensures in
     s.stored _ _ c.store_codes.ensures c.store_outlets.ensures

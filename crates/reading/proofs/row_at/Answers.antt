@@ -10,6 +10,8 @@ use Rattle.spelling.specs.Format.{row_mark}
 use Rattle.spelling.specs.Reading.{is_record}
 use Rattle.reading.proofs.Steps.{record_fits, part_codes, no_row, other_row, other_code, row_passes}
 use Rattle.reading.proofs.row_at.Goals as goal
+use Rattle.reading.proofs.row_at.Goals.{then-not-is_record-via-then-not-is_record}
+use Rattle.reading.proofs.row_at.Goals.{then-not-is_record-via-else-not-is_record+then-number-row}
 
 fits : (file : List ℕ) (at cols : ℕ) → is_record row_mark (4 + cols) (drop at file) ≡ true → at ≤ length file
     → at + (4 + cols) ≤ length file
@@ -18,18 +20,18 @@ fits file at cols e h = record_fits file at (4 + cols) 82 87 e h
 pub returns-then-not-is_record : goal.returns-then-not-is_record
 returns-then-not-is_record c =
     let a = c.args in
-    no_row a.file.now a.cols a.row a.here.at (sym c.is_record.ensures ∙ c.if-not-is_record.true)
+    elim c.then-not-is_record.branch [
+      | then-not-is_record-via-then-not-is_record w ↦
+          no_row a.file.now a.cols a.row a.here.at (sym c.is_record.ensures ∙ w.if-not-is_record.true)
+      | then-not-is_record-via-else-not-is_record+then-number-row w ↦
+          other_row a.file.now a.cols a.row a.here.at (sym c.is_record.ensures ∙ w.if-not-is_record.false)
+          (λ e. w.if-number-row.true (w.number.ensures.same ∙ e))
+    ]
 
 pub number-requires : goal.number-requires
 number-requires c =
     let a = c.args in
     omega (arith, fits a.file.now a.here.at a.cols (sym c.is_record.ensures ∙ c.if-not-is_record.false) c.requires.0)
-
-pub returns-then-number-row : goal.returns-then-number-row
-returns-then-number-row c =
-    let a = c.args in
-    other_row a.file.now a.cols a.row a.here.at (sym c.is_record.ensures ∙ c.if-not-is_record.false)
-    (λ e. c.if-number-row.true (c.number.ensures.same ∙ e))
 
 pub slice_bounds-all_ours-end : goal.slice_bounds-all_ours-end
 slice_bounds-all_ours-end c =

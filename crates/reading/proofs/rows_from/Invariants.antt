@@ -9,9 +9,6 @@ use Rattle.reading.proofs.rows_from.Given as goal
 
 abbrev pub invariant-loop-row : goal.invariant-loop-row
 invariant-loop-row l =
-    (l.row ≤ l.rows) × (l.here.at ≡ 6 + l.row * (4 + l.cols)) × (l.here.at ≤ length l.file)
+    (l.here.at ≡ 6 + l.row * (4 + l.cols)) × (l.here.at ≤ length l.file)
     × (first_failed (rows_checks l.rows l.cols 0 l.rows (drop 6 l.file))
     ≡ first_failed (rows_checks l.rows l.cols l.row (l.rows - l.row) (drop l.here.at l.file)))
-
-abbrev pub decreases-loop-row : goal.decreases-loop-row
-decreases-loop-row l = l.rows - l.row

@@ -10,10 +10,7 @@ use Rattle.reading.proofs.tail_from.Given as goal
 
 abbrev pub invariant-loop-count : goal.invariant-loop-count
 invariant-loop-count l =
-    (l.here.at ≤ length l.file) × (l.count ≤ 257)
+    (l.here.at ≤ length l.file)
     × (first_failed (tail_checks l.rows l.cols 257 (drop l.initial.here.at l.file))
     ≡ first_failed (tail_checks l.rows l.cols (257 - l.count) (drop l.here.at l.file)))
     × (outlet_count 257 (drop l.initial.here.at l.file) ≡ l.count + outlet_count (257 - l.count) (drop l.here.at l.file))
-
-abbrev pub decreases-loop-count : goal.decreases-loop-count
-decreases-loop-count l = 257 - l.count

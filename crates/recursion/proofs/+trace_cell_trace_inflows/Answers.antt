@@ -3,6 +3,7 @@
 use mathlib.Core.Path.{sym, subst}
 use Prim.Native.Nat.{◌+◌}
 use native.Mathlib.Omega.{arith}
+use Rattle.notes.specs.Notes.{edition_number}
 use Rattle.upstream.specs.Ready.{met_in}
 use Rattle.recursion.specs.Tracing.{InflowsReady, InflowsTraced}
 use Rattle.recursion.proofs.Cell.{cells_read, has_room, inflows_ready, cell_traced}
@@ -29,19 +30,18 @@ trace_cell-returns t c =
 
 -- ---- tracing its inflows
 
-pub trace_inflows-returns-then-t-ge8 : goal.trace_inflows-returns-then-t-ge8
-trace_inflows-returns-then-t-ge8 t c =
+pub trace_inflows-returns-in_default : goal.trace_inflows-returns-in_default
+trace_inflows-returns-in_default t c =
     let a = c.args in
     let r = c.requires in
-    inflows_done r.ready (met_in a.edition a.subaccumulation.now) a.dropping r.inflows_ready c.next_turn-t.ensures
-    c.if-t-ge8.true
+    inflows_done r.ready (met_in (edition_number a.edition) a.filled.now.subaccumulation.now) a.dropping r.inflows_ready c.in_default.ensures
 
 pub trace_inflows-is_dropped-requires : goal.trace_inflows-is_dropped-requires
 trace_inflows-is_dropped-requires t c =
     let a = c.args in
     let r = c.requires in
-    let h = testable r.ready (met_in a.edition a.subaccumulation.now) a.dropping r.inflows_ready
-    c.next_turn-t.ensures c.if-t-ge8.false c.plus-longer.ensures in
+    let h = testable r.ready (met_in (edition_number a.edition) a.filled.now.subaccumulation.now) a.dropping r.inflows_ready
+    c.in-Some.ensures c.plus-longer.ensures in
     (omega (arith, h), omega (arith, h), omega (arith, h))
 
 pub trace_inflows-drop_cells-q-requires : goal.trace_inflows-drop_cells-q-requires
@@ -50,22 +50,21 @@ trace_inflows-drop_cells-q-requires t c =
     let r = c.requires in
     omega (
       arith,
-      small_cells r.ready (met_in a.edition a.subaccumulation.now) a.dropping r.inflows_ready
-          c.next_turn-t.ensures c.if-t-ge8.false,
+      small_cells r.ready (met_in (edition_number a.edition) a.filled.now.subaccumulation.now) a.dropping r.inflows_ready
+          c.in-Some.ensures,
     )
 
 pub trace_inflows-trace_inflows-requires : goal.trace_inflows-trace_inflows-requires
 trace_inflows-trace_inflows-requires t c =
     let a = c.args in
     let r = c.requires in
-    let n = c.next_turn-t in (
-      omega (arith, c.decreases, n.ensures.from, c.if-t-ge8.false),
+    let n = c.in-Some in (
+      omega (arith, c.decreases, n.ensures.from, n.ensures.last),
       (
         r.ready,
-        subst (λ q. InflowsReady a.rows a.cols a.codes.now a.outlets.now a.row a.col a.len (n.result.k + 1) q
+        subst (λ q. InflowsReady a.filled.now.grid.rows a.filled.now.grid.cols a.filled.now.grid.codes.now a.filled.now.outlets.now a.cell.row a.cell.col a.len (n.t.k + 1) q
             a.found.now) (sym c.drop_cells-q.ensures)
-            (drop_ready r.ready (met_in a.edition a.subaccumulation.now) a.dropping r.inflows_ready n.ensures
-            c.if-t-ge8.false c.plus-longer.ensures c.is_dropped.ensures),
+            (drop_ready r.ready (met_in (edition_number a.edition) a.filled.now.subaccumulation.now) a.dropping r.inflows_ready n.ensures c.plus-longer.ensures c.is_dropped.ensures),
       ),
     )
 
@@ -73,31 +72,31 @@ pub trace_inflows-returns-then-is_dropped : goal.trace_inflows-returns-then-is_d
 trace_inflows-returns-then-is_dropped t c =
     let a = c.args in
     let r = c.requires in
-    let n = c.next_turn-t in
+    let n = c.in-Some in
     let i = c.trace_inflows in
-    let met = met_in a.edition a.subaccumulation.now in
-    drop_traced r.ready met a.dropping r.inflows_ready n.ensures c.if-t-ge8.false c.plus-longer.ensures
+    let met = met_in (edition_number a.edition) a.filled.now.subaccumulation.now in
+    drop_traced r.ready met a.dropping r.inflows_ready n.ensures c.plus-longer.ensures
     c.is_dropped.ensures c.if-is_dropped.true i.result i.new.found
-    (subst (λ q. InflowsTraced a.rows a.cols a.codes.now a.outlets.now met a.dropping a.row a.col a.len
-    (n.result.k + 1) q a.found.now i.result i.new.found) c.drop_cells-q.ensures i.ensures)
+    (subst (λ q. InflowsTraced a.filled.now.grid.rows a.filled.now.grid.cols a.filled.now.grid.codes.now a.filled.now.outlets.now met a.dropping a.cell.row a.cell.col a.len
+    (n.t.k + 1) q a.found.now i.result i.new.found) c.drop_cells-q.ensures i.ensures)
 
 pub trace_inflows-trace_cell-q-requires : goal.trace_inflows-trace_cell-q-requires
 trace_inflows-trace_cell-q-requires t c =
     let a = c.args in
     let ready = c.requires.ready in
     let here = c.requires.inflows_ready in
-    let n = c.next_turn-t in
-    let met = met_in a.edition a.subaccumulation.now in (
+    let n = c.in-Some in
+    let met = met_in (edition_number a.edition) a.filled.now.subaccumulation.now in (
       omega (
         arith,
         c.decreases,
-        fewer ready met a.dropping here n.ensures c.if-t-ge8.false,
-        cells_lent ready met a.dropping here n.ensures c.if-t-ge8.false,
-        cells_read ready a.row a.col here.row_in here.col_in,
+        fewer ready met a.dropping here n.ensures,
+        cells_lent ready met a.dropping here n.ensures,
+        cells_read ready a.cell.row a.cell.col here.row_in here.col_in,
       ),
       (
         ready,
-        cell_ready ready met a.dropping here n.ensures c.if-t-ge8.false c.plus-longer.ensures c.is_dropped.ensures
+        cell_ready ready met a.dropping here n.ensures c.plus-longer.ensures c.is_dropped.ensures
             c.if-is_dropped.false,
       ),
     )
@@ -106,12 +105,11 @@ pub trace_inflows-trace_inflows-requires-2 : goal.trace_inflows-trace_inflows-re
 trace_inflows-trace_inflows-requires-2 t c =
     let a = c.args in
     let r = c.requires in
-    let n = c.next_turn-t in (
-      omega (arith, c.decreases, n.ensures.from, c.if-t-ge8.false),
+    let n = c.in-Some in (
+      omega (arith, c.decreases, n.ensures.from, n.ensures.last),
       (
         r.ready,
-        rest_ready r.ready (met_in a.edition a.subaccumulation.now) a.dropping r.inflows_ready n.ensures
-            c.if-t-ge8.false c.plus-longer.ensures c.is_dropped.ensures c.if-is_dropped.false
+        rest_ready r.ready (met_in (edition_number a.edition) a.filled.now.subaccumulation.now) a.dropping r.inflows_ready n.ensures c.plus-longer.ensures c.is_dropped.ensures c.if-is_dropped.false
             c.trace_cell-q.ensures,
       ),
     )
@@ -121,6 +119,5 @@ trace_inflows-returns t c =
     let a = c.args in
     let r = c.requires in
     let i = c.trace_inflows-2 in
-    rest_traced r.ready (met_in a.edition a.subaccumulation.now) a.dropping r.inflows_ready c.next_turn-t.ensures
-    c.if-t-ge8.false c.plus-longer.ensures c.is_dropped.ensures c.if-is_dropped.false c.trace_cell-q.ensures
+    rest_traced r.ready (met_in (edition_number a.edition) a.filled.now.subaccumulation.now) a.dropping r.inflows_ready c.in-Some.ensures c.plus-longer.ensures c.is_dropped.ensures c.if-is_dropped.false c.trace_cell-q.ensures
     i.result i.new.found i.ensures

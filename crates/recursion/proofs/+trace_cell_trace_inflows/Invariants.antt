@@ -11,7 +11,7 @@ abbrev cells_at_word : List ℕ → ℕ → ℕ
 cells_at_word words x = cells_held (get_or words x 0)
 
 abbrev pub decreases-trace_cell : goal.decreases-trace_cell
-decreases-trace_cell l = cells_at_word l.subaccumulation.now (l.row * l.cols + l.col) * 10 + 9
+decreases-trace_cell l = cells_at_word l.filled.now.subaccumulation.now (l.cell.row * l.filled.now.grid.cols + l.cell.col) * 10 + 9
 
 abbrev pub decreases-trace_inflows : goal.decreases-trace_inflows
-decreases-trace_inflows l = cells_at_word l.subaccumulation.now (l.row * l.cols + l.col) * 10 + (8 - l.k)
+decreases-trace_inflows l = cells_at_word l.filled.now.subaccumulation.now (l.cell.row * l.filled.now.grid.cols + l.cell.col) * 10 + (8 - l.k)

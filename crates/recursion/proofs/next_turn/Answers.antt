@@ -13,49 +13,23 @@ use Rattle.recursion.proofs.Turning.{one_further, next_found}
 use Rattle.upstream.proofs.Turning.{nothing_there}
 use Rattle.recursion.proofs.next_turn.Goals as goal
 
-pub loop-n-init : goal.loop-n-init
-loop-n-init c = (omega arith, c.requires.within, λ i h l. absurd (omega arith))
-
-pub tributary-requires : goal.tributary-requires
-tributary-requires c =
-    (c.requires.on, c.is_inner-inner.ensures.0)
-
 pub turn_at-requires : goal.turn_at-requires
 turn_at-requires c =
     let f = c.tributary.ensures in
-    let on = c.in-On in
-    let h = digits_lt (f.row_in on.r on.c on.is) (f.col_in on.r on.c on.is) in
+    let on = c.in-Some in
+    let h = digits_lt (f.row_in _ on.is) (f.col_in _ on.is) in
     let p = c.requires in
     (omega (arith, h, p.has_subaccumulations), omega (arith, h, size p.on.grid.sides))
 
-pub returns-in-On : goal.returns-in-On
-returns-in-On c =
+pub returns-in-Some : goal.returns-in-Some
+returns-in-Some c =
     let l = c.loop-n in
-    next_found l.invariant.0 l.invariant.1 l.invariant.2 c.tributary.ensures
-    c.in-On.is c.turn_at.ensures
+    next_found l.auto.n (omega arith) l.invariant c.tributary.ensures c.in-Some.is c.turn_at.ensures
 
 pub loop-n-preserved : goal.loop-n-preserved
 loop-n-preserved c =
     let l = c.loop-n in
     let a = c.args in
-    let f = c.tributary.ensures in (
-      omega arith,
-      omega arith,
-      one_further (λ i. inflow_in (grid_of a.rows a.cols a.codes.now) a.outlets.now
-          (a.row * a.cols + a.col) (dir_at i) ≡ none) a.k l.n l.invariant.2
-          (nothing_there f c.in_default.is),
-    )
-
-pub returns : goal.returns
-returns c =
-    let l = c.loop-n in
-    let e : l.n ≡ 8 = omega arith in
-    record {
-      from = omega arith;
-      last = omega arith;
-      skipped = λ i h k. l.invariant.2 i h (omega arith);
-      there = λ h. absurd (omega arith);
-      row_in = λ h. absurd (omega arith);
-      col_in = λ h. absurd (omega arith);
-      is_turn = λ h. absurd (omega arith);
-    }
+    one_further (λ i. inflow_in (grid_of a.filled.now.grid.rows a.filled.now.grid.cols a.filled.now.grid.codes.now) a.filled.now.outlets.now
+    (a.cell.row * a.filled.now.grid.cols + a.cell.col) (dir_at i) ≡ none) a.k l.n l.invariant
+    (nothing_there c.tributary.ensures c.in_default.is)

@@ -1,46 +1,30 @@
--- `stack::cells_above` meets its contract. The loop's invariant: the total is what the words before i hold, each of
--- them below 2 ^ 29. Assumes nothing.
-use mathlib.Core.Path.{◌≡◌, refl, ap, ◌∙◌}
-use mathlib.Core.List.{map}
-use Prim.Native.Nat.{◌<◌}
+-- `stack::cells_above` meets its contract. The loop's invariant: the total is what the words so far hold, each of them
+-- below 2 ^ 29. Assumes nothing.
+use mathlib.Core.Path.{◌≡◌}
+use mathlib.Core.List.{[]}
 use native.Mathlib.Omega.{arith}
+use native.Mathlib.Numerals.{add-one}
 use borrow.Author.Rules.{rules}
-use lib.ListN.{length, length-map}
-use lib.Seq.{take_all}
+use lib.ListN.{length, drop, drop_of_length-le}
 use Rattle.lists.specs.Lists.{sum_of}
-use Rattle.lists.proofs.Lists.{get_d_map}
-use Rattle.inflows.proofs.InflowRecord.{sum_take}
+use Rattle.lists.proofs.Sums.{sum_left}
 use Rattle.notes.specs.Notes.{cells_held}
 use Rattle.stack.proofs.cells_above.Goals as goal
 
-pub loop-i-init : goal.loop-i-init
-unfolding sum_of
-loop-i-init c =
-    let eight : length c.args.inflows.values ≡ 8 = search rules in
-    (search rules, length-map c.args.inflows.values cells_held ∙ eight, search rules, refl)
-
-pub loop-i-preserved : goal.loop-i-preserved
-loop-i-preserved c =
-    let l = c.loop-i in
+pub loop-word-preserved : goal.loop-word-preserved
+loop-word-preserved c =
+    let l = c.loop-word in
     let values = c.args.inflows.values in
-    let held = c.cells_held.ensures in
-    let h : l.i < length (map cells_held values) = omega (arith, l.invariant.1, c.loop-i-test.true) in
-    let k : l.i < length values = omega (arith, length-map values cells_held) in (
-      search rules,
-      search rules,
-      omega (arith, l.invariant.2, c.wide-total.ensures, held),
-      omega (
-        arith,
-        l.invariant.3,
-        sum_take (map cells_held values) l.i h,
-        get_d_map cells_held values l.i 0 k,
-        c.wide-total.ensures,
-        held,
-      ),
+    let eight : length values ≡ 8 = search rules in (
+      omega arith,
+      rw (add-one l.word-index) (omega (arith, sum_left cells_held values l.word-index (omega arith))),
     )
 
 pub returns : goal.returns
+unfolding sum_of
 returns c =
-    c.loop-i.invariant.3
-    ∙ ap sum_of (take_all c.loop-i.i (map cells_held c.args.inflows.values)
-    (omega arith))
+    let l = c.loop-word in
+    let values = c.args.inflows.values in
+    let eight : length values ≡ 8 = search rules in
+    let none_left : drop l.word-index values ≡ [] = drop_of_length-le values (omega arith) in
+    omega (arith, rw none_left at l.invariant.1)

@@ -11,12 +11,12 @@ pub put_inflows-requires : goal.put_inflows-requires
 put_inflows-requires c =
     let p = c.requires in
     let n = p.n_value in record {
-      on_cell = on_cell p.ready p.on_ground;
+      on_cell = on_cell c.requires.ready p.on_ground;
       len_in_bounds = (
         omega (
           arith,
           ap length (c.none_flows_in.ensures c.if-none_flows_in.true c.args.len),
-          room_above p.ready p.on_ground c.args.len _ c.args.top _ n.0 n.1,
+          room_above c.requires.ready p.on_ground c.args.len _ c.args.top _ n.0 n.1,
         ),
         n.2,
       );
@@ -33,6 +33,6 @@ pub put_inflows-requires-2 : goal.put_inflows-requires-2
 put_inflows-requires-2 c =
     let p = c.requires in
     let n = p.n_value in record {
-      on_cell = on_cell p.ready p.on_ground;
-      len_in_bounds = (room_above p.ready p.on_ground c.args.len _ c.args.top _ n.0 n.1, n.2);
+      on_cell = on_cell c.requires.ready p.on_ground;
+      len_in_bounds = (room_above c.requires.ready p.on_ground c.args.len _ c.args.top _ n.0 n.1, n.2);
     }

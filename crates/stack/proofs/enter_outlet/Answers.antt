@@ -1,24 +1,25 @@
 -- `stack::enter_outlet` meets its contract.
 -- Assumes nothing.
 use native.Mathlib.Omega.{arith}
+use Rattle.notes.specs.Notes.{edition_number}
 use Rattle.stack.proofs.Climbing.{on_cell, few_above}
 use Rattle.stack.proofs.Entering.{room, entered}
 use Rattle.stack.proofs.enter_outlet.Goals as goal
 
-pub visit-visited-requires : goal.visit-visited-requires
-visit-visited-requires c = room c.requires.ready c.requires.on_ground c.requires.fits
+pub visit-progress-requires : goal.visit-progress-requires
+visit-progress-requires c = room c.requires.ready c.requires.on_ground c.requires.fits
 
-pub put_inflows-first-requires : goal.put_inflows-first-requires
-put_inflows-first-requires c =
+pub put_inflows-higher-requires : goal.put_inflows-higher-requires
+put_inflows-higher-requires c =
     let p = c.requires in record {
-      on_cell = on_cell p.ready p.on_ground;
+      on_cell = on_cell c.requires.ready p.on_ground;
       len_in_bounds = (
         omega (
           arith,
-          few_above p.ready p.on_ground c.args.len,
+          few_above c.requires.ready p.on_ground c.args.len,
           p.fits.room,
           p.fits.within,
-          c.visit-visited.auto.work,
+          c.visit-progress.auto.work,
         ),
         p.fits.short,
       );
@@ -27,5 +28,5 @@ put_inflows-first-requires c =
 pub returns : goal.returns
 returns c =
     let p = c.requires in
-    entered p.ready p.on_ground p.fits c.args.edition (rw c.is_met-met.ensures at c.visit-visited.ensures)
-    c.put_inflows-first.ensures
+    entered c.requires.ready p.on_ground p.fits (edition_number c.args.edition) (rw c.is_met-met.ensures at c.visit-progress.ensures)
+    c.put_inflows-higher.ensures

@@ -2,6 +2,7 @@
 -- Assumes nothing.
 use mathlib.Core.Path.{◌∙◌}
 use native.Mathlib.Omega.{arith}
+use Rattle.notes.specs.Notes.{edition_number}
 use Rattle.upstream.specs.Ready.{met_in}
 use Rattle.stack.proofs.Climbing.{indexed, read}
 use Rattle.stack.proofs.Turning.{pending_room, on_ground, testable, few_dropped, fits, turn_dropped}
@@ -13,8 +14,8 @@ pending_at-w-requires c =
     let s = c.requires.stack_stands in
     omega (arith, pending_room c.requires.ready s.0 s.1, s.0.within, s.1)
 
-pub bounds-subaccumulation-row : goal.bounds-subaccumulation-row
-bounds-subaccumulation-row c =
+pub bounds-filled-w : goal.bounds-filled-w
+bounds-filled-w c =
     let s = c.requires.stack_stands in
     omega (arith, indexed c.requires.ready (on_ground c.requires.ready s.0 s.1 c.pending_at-w.ensures))
 
@@ -38,7 +39,7 @@ returns-then-is_dropped c =
     let p = c.requires.ready in
     let s = c.requires.stack_stands in
     let e = c.pending_at-w.ensures in
-    turn_dropped p s.0 s.1 e (met_in a.edition a.subaccumulation.now) a.dropping
+    turn_dropped p s.0 s.1 e (met_in (edition_number a.edition) a.filled.subaccumulation.now) a.dropping
     (c.cells_held-n.ensures ∙ read p (on_ground p s.0 s.1 e))
     c.is_dropped.ensures c.if-is_dropped.true c.drop_cells.ensures
 
@@ -55,6 +56,6 @@ returns c =
     let p = c.requires.ready in
     let s = c.requires.stack_stands in
     let e = c.pending_at-w.ensures in
-    turn_entered p s.0 s.1 e (met_in a.edition a.subaccumulation.now) a.dropping
+    turn_entered p s.0 s.1 e (met_in (edition_number a.edition) a.filled.subaccumulation.now) a.dropping
     (c.cells_held-n.ensures ∙ read p (on_ground p s.0 s.1 e))
     c.is_dropped.ensures c.if-is_dropped.false c.enter_cell.ensures c.enter_cell.auto.work

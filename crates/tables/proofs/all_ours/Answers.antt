@@ -8,4 +8,4 @@ use Rattle.tables.proofs.all_ours.Goals as goal
 pub returns : goal.returns
 returns c =
     let a = c.args in
-    c.all_codes.ensures ∙ all_in table1 c.ours-table.ensures a.codes.now a.n
+    c.all_codes.ensures ∙ all_in table1 c.ours.ensures a.codes.now a.n

@@ -3,49 +3,36 @@
 -- Assumes nothing.
 use mathlib.Core.Path.{◌≡◌, ap}
 use mathlib.Core.List.{List, map}
-use Prim.Native.Nat.{ℕ, max}
+use Prim.Native.Nat.{ℕ, ◌+◌, ◌<◌, max}
 use native.Mathlib.Numerals.{add-one}
 use native.Mathlib.Omega.{arith}
-use lib.ListN.{get_or, drop_of_length-le}
+use borrow.Author.Rules.{rules}
+use lib.ListN.{length, get_or, drop, drop_of_length-le}
 use Rattle.lists.specs.Lists.{greatest_of}
 use Rattle.lists.proofs.Sums.{greatest_left}
-use Rattle.tracingall.proofs.most_cells.Goals.{then-most-cells, else-most-cells}
 use Rattle.tracingall.proofs.most_cells.Goals as goal
 
-pub loop-j-init : goal.loop-j-init
-loop-j-init c = (omega arith, omega arith)
+pub bounds-subaccumulation-outlet : goal.bounds-subaccumulation-outlet
+bounds-subaccumulation-outlet c = c.requires c.loop-outlet.outlet-index c.loop-outlet-test.true
 
-pub bounds-subaccumulation-at : goal.bounds-subaccumulation-at
-bounds-subaccumulation-at c =
-    omega (arith, c.index_of-at.ensures.0, c.requires c.loop-j.j c.loop-j-test.true)
+-- one outlet more
+with_next : (f : ℕ → ℕ) (os : List ℕ) (i most next : ℕ) → i < length os → next ≡ max most (f (get_or os i 0))
+    → max most (greatest_of (map f (drop i os))) ≡ greatest_of (map f os)
+    → max next (greatest_of (map f (drop (i + 1) os))) ≡ greatest_of (map f os)
+with_next f os i most next h n e = rw (add-one i) (omega (arith, n, e, greatest_left f os i h))
 
-pub loop-j-smaller : goal.loop-j-smaller
-loop-j-smaller c = omega (arith, c.loop-j-test.true)
-
-pub loop-j-preserved : goal.loop-j-preserved
-loop-j-preserved c =
-    let l = c.loop-j in
+pub loop-outlet-preserved : goal.loop-outlet-preserved
+loop-outlet-preserved c =
+    let l = c.loop-outlet in
     let a = c.args in
     let f : ℕ → ℕ = λ o. get_or a.subaccumulation.now o 0 in
-    -- the greater of the two is kept
-    let greater : c.if-most-cells.most ≡ max l.most (f c.index_of-at.result) = elim c.if-most-cells.branch [
-      | then-most-cells w ↦ omega arith
-      | else-most-cells w ↦ omega arith
-    ] in (
-      omega (arith, c.loop-j-test.true),
-      rw (add-one l.j) (omega (
-        arith,
-        l.invariant.1,
-        greater,
-        ap f c.index_of-at.ensures.0,
-        greatest_left f a.outlets.now l.j c.loop-j-test.true,
-      )),
-    )
+    let next : c.max-most.result ≡ max l.most (f (get_or a.outlets.now l.outlet-index 0)) = search rules in
+    with_next f a.outlets.now l.outlet-index l.most c.max-most.result c.loop-outlet-test.true next l.invariant
 
 pub returns : goal.returns
 unfolding greatest_of
 returns c =
-    let l = c.loop-j in
+    let l = c.loop-outlet in
     let a = c.args in
-    let none = drop_of_length-le a.outlets.now {i = l.j} c.loop-j-test.false in
-    omega (arith, l.invariant.1, ap (λ (os : List ℕ). greatest_of (map (λ o. get_or a.subaccumulation.now o 0) os)) none)
+    let none = drop_of_length-le a.outlets.now {i = l.outlet-index} c.loop-outlet-test.false in
+    omega (arith, l.invariant, ap (λ (os : List ℕ). greatest_of (map (λ o. get_or a.subaccumulation.now o 0) os)) none)

@@ -1,8 +1,10 @@
 -- `tracingall::search_all` meets its contract.
 -- Assumes nothing.
+use mathlib.Core.Path.{refl}
 use native.Mathlib.Omega.{arith}
 use Rattle.lists.proofs.Kept.{kept_then}
 use Rattle.ground.specs.Grid.{grid_of}
+use Rattle.notes.specs.Notes.{edition_number}
 use Rattle.passes.proofs.Counting.{kept_traceable}
 use Rattle.tracingall.proofs.Deciding.{clears_all, total, searched_21, searched_0}
 use Rattle.tracingall.proofs.search_all.Goals as goal
@@ -11,18 +13,18 @@ pub clear-requires : goal.clear-requires
 clear-requires c =
     omega (arith, c.requires.end_value.0, c.requires.searchable.list.room, c.count_all-s.ensures.kept.same_length)
 
-pub returns-then-starts-index_of : goal.returns-then-starts-index_of
-returns-then-starts-index_of c =
+pub returns-then-starts-s : goal.returns-then-starts-s
+returns-then-starts-s c =
     let a = c.args in
-    let g = grid_of a.rows a.cols a.codes.now in
-    searched_21 g a.outlets.now a.edition c.count_all-s.ensures.counts c.index_of.ensures.0
-    (clears_all g a.outlets.now c.requires.end_value.0 c.requires.searchable.list.room c.count_all-s.ensures.kept c.clear.ensures)
-    c.if-starts-index_of.true
+    let g = grid_of a.filled.grid.rows a.filled.grid.cols a.filled.grid.codes.now in
+    rw c.number.ensures (searched_21 g a.filled.outlets.now (edition_number a.edition) c.count_all-s.ensures.counts refl
+    (clears_all g a.filled.outlets.now c.requires.end_value.0 c.requires.searchable.list.room c.count_all-s.ensures.kept c.clear.ensures)
+    c.if-starts-s.true)
 
 pub list_all-requires : goal.list_all-requires
 list_all-requires c =
     let a = c.args in
-    let g = grid_of a.rows a.cols a.codes.now in record {
+    let g = grid_of a.filled.grid.rows a.filled.grid.cols a.filled.grid.codes.now in record {
       searchable = record {
         ready = c.requires.searchable.ready;
         met = c.requires.searchable.met;
@@ -31,9 +33,9 @@ list_all-requires c =
       outlets_in_bounds = (
         omega (
           arith,
-          c.if-starts-index_of.false,
-          total g a.outlets.now a.edition c.count_all-s.ensures.counts
-              c.index_of.ensures.0,
+          c.if-starts-s.false,
+          total g a.filled.outlets.now (edition_number a.edition) c.count_all-s.ensures.counts
+              refl,
         ),
         c.count_all-s.ensures.few_paths,
         c.requires.end_value.1,
@@ -53,8 +55,8 @@ clear-requires-2 c =
 pub returns : goal.returns
 returns c =
     let a = c.args in
-    let g = grid_of a.rows a.cols a.codes.now in
+    let g = grid_of a.filled.grid.rows a.filled.grid.cols a.filled.grid.codes.now in
     let k = kept_then c.count_all-s.ensures.kept c.list_all.ensures.kept in
-    searched_0 g a.outlets.now a.edition c.count_all-s.ensures.counts c.index_of.ensures.0
-    (clears_all g a.outlets.now c.requires.end_value.0 c.requires.searchable.list.room k c.clear-2.ensures) c.if-starts-index_of.false
+    searched_0 g a.filled.outlets.now (edition_number a.edition) c.count_all-s.ensures.counts refl
+    (clears_all g a.filled.outlets.now c.requires.end_value.0 c.requires.searchable.list.room k c.clear-2.ensures) c.if-starts-s.false
     c.list_all.ensures

@@ -13,8 +13,8 @@ pub search_all-traced-requires : goal.search_all-traced-requires
 search_all-traced-requires c =
     record { searchable = all_searchable c.requires.traceable c.make_ready.ensures; end_value = c.requires.end_value }
 
-pub overflow_mul-rows : goal.overflow_mul-rows
-overflow_mul-rows c =
+pub overflow_mul-grid : goal.overflow_mul-grid
+overflow_mul-grid c =
     omega (arith, few c.requires.fresh)
 
 pub returns : goal.returns

@@ -1,91 +1,78 @@
 -- `tracingall::trace_all` meets its contract.
 -- Assumes nothing.
-use mathlib.Core.Path.{◌≡◌, refl, sym, ◌∙◌}
-use Prim.Native.Nat.{◌*◌}
+use mathlib.Core.Path.{refl, subst}
+use Prim.Native.Nat.{ℕ}
 use native.Mathlib.Omega.{arith}
+use Rattle.ground.specs.Grid.{grid_of}
 use Rattle.answers.specs.Entries.{catchment}
-use Rattle.alloutlets.specs.AllOutlets.{lent_all, most_cells}
-use Rattle.search.specs.Tracing.{numbers_each}
+use Rattle.answers.proofs.Refusals.{has_number}
+use Rattle.alloutlets.specs.AllOutlets.{lent_all}
+use Rattle.tracingall.specs.Searching.{SearchesAll}
 use Rattle.tracingall.proofs.Filled.{outlets_within, most_is, all_fresh, traceable}
 use Rattle.tracingall.proofs.Deciding.{all_25, all_first, all_20, all_23, all_searched}
 use Rattle.tracingall.proofs.trace_all.Goals as goal
 
-pub returns-then-not-is_edition : goal.returns-then-not-is_edition
-returns-then-not-is_edition c =
-    all_25 c.args.edition ((let a = c.args in
-    catchment a.rows a.cols a.codes.now a.accumulation.now a.outlets.now)) ((let a = c.args in
-    lent_all a.subaccumulation.now a.starts.now a.counts.now a.work.now)) (sym c.is_edition.ensures ∙ c.if-not-is_edition.true)
-    c.refused_all.ensures
+pub returns-in-Err : goal.returns-in-Err
+returns-in-Err c =
+    let a = c.args in
+    let e = c.in-Err.ensures in
+    all_25 a.edition (catchment a.rows a.cols a.codes.now a.accumulation.now a.outlets.now) (lent_all a.subaccumulation.now a.starts.now a.counts.now a.work.now) e.0
+    (rw e.1 at c.refused_all.ensures)
 
-pub returns-then-number-ne0 : goal.returns-then-number-ne0
-returns-then-number-ne0 c =
-    all_first c.args.edition ((let a = c.args in
-    catchment a.rows a.cols a.codes.now a.accumulation.now a.outlets.now)) ((let a = c.args in
-    lent_all a.subaccumulation.now a.starts.now a.counts.now a.work.now)) ((sym c.is_edition.ensures ∙ c.if-not-is_edition.false)) c.subaccumulate-number.ensures
-    c.if-number-ne0.true c.refused_all-then-number-ne0.ensures
+pub returns-in-Err-subaccumulate : goal.returns-in-Err-subaccumulate
+returns-in-Err-subaccumulate c =
+    let a = c.args in
+    all_first a.edition (catchment a.rows a.cols a.codes.now a.accumulation.now a.outlets.now) (lent_all a.subaccumulation.now a.starts.now a.counts.now a.work.now) c.in-Ok.ensures.0
+    c.in-Err-subaccumulate.ensures (has_number c.in-Err-subaccumulate.refusal)
+    c.refused_all-in-Err-subaccumulate.ensures
 
 pub most_cells-requires : goal.most_cells-requires
 most_cells-requires c =
-    outlets_within {c = (let a = c.args in
-    catchment a.rows a.cols a.codes.now a.accumulation.now a.outlets.now)} refl c.subaccumulate-number.ensures c.if-number-ne0.false
+    let a = c.args in
+    outlets_within {c = (catchment a.rows a.cols a.codes.now a.accumulation.now a.outlets.now)} refl c.in_default.ensures refl
 
 pub returns-then-work-end : goal.returns-then-work-end
 returns-then-work-end c =
-    all_20 c.args.edition ((let a = c.args in
-    catchment a.rows a.cols a.codes.now a.accumulation.now a.outlets.now)) ((let a = c.args in
-    lent_all a.subaccumulation.now a.starts.now a.counts.now a.work.now)) ((sym c.is_edition.ensures ∙ c.if-not-is_edition.false)) c.subaccumulate-number.ensures
-    c.if-number-ne0.false (omega (
-      arith,
-      c.if-work-end.true,
-      (let held : numbers_each * c.index_of-end.result ≡ numbers_each * most_cells ((let a = c.args in catchment a.rows a.cols a.codes.now a.accumulation.now a.outlets.now)).grid ((let a = c.args in catchment a.rows a.cols a.codes.now a.accumulation.now a.outlets.now)).outlets = let q = most_is {c = (let a = c.args in
-          catchment a.rows a.cols a.codes.now a.accumulation.now a.outlets.now)} refl c.subaccumulate-number.ensures c.if-number-ne0.false c.most_cells.ensures in
-          omega (arith, c.index_of-end.ensures.0, q) in held),
-    )) c.refused_all-then-work-end.ensures
+    let a = c.args in
+    let s = c.in_default.ensures in
+    let most = most_is {c = (catchment a.rows a.cols a.codes.now a.accumulation.now a.outlets.now)} refl s refl c.most_cells.ensures in
+    all_20 a.edition (catchment a.rows a.cols a.codes.now a.accumulation.now a.outlets.now) (lent_all a.subaccumulation.now a.starts.now a.counts.now a.work.now) c.in-Ok.ensures.0 s refl
+    (omega (arith, most)) c.refused_all-then-work-end.ensures
 
 pub returns-then-counts-outlets : goal.returns-then-counts-outlets
 returns-then-counts-outlets c =
-    all_23 c.args.edition ((let a = c.args in
-    catchment a.rows a.cols a.codes.now a.accumulation.now a.outlets.now)) ((let a = c.args in
-    lent_all a.subaccumulation.now a.starts.now a.counts.now a.work.now)) ((sym c.is_edition.ensures ∙ c.if-not-is_edition.false)) c.subaccumulate-number.ensures
-    c.if-number-ne0.false (omega (
-      arith,
-      c.if-work-end.false,
-      (let held : numbers_each * c.index_of-end.result ≡ numbers_each * most_cells ((let a = c.args in catchment a.rows a.cols a.codes.now a.accumulation.now a.outlets.now)).grid ((let a = c.args in catchment a.rows a.cols a.codes.now a.accumulation.now a.outlets.now)).outlets = let q = most_is {c = (let a = c.args in
-          catchment a.rows a.cols a.codes.now a.accumulation.now a.outlets.now)} refl c.subaccumulate-number.ensures c.if-number-ne0.false c.most_cells.ensures in
-          omega (arith, c.index_of-end.ensures.0, q) in held),
-    )) c.if-counts-outlets.true c.refused_all-then-counts-outlets.ensures
+    let a = c.args in
+    let s = c.in_default.ensures in
+    let most = most_is {c = (catchment a.rows a.cols a.codes.now a.accumulation.now a.outlets.now)} refl s refl c.most_cells.ensures in
+    all_23 a.edition (catchment a.rows a.cols a.codes.now a.accumulation.now a.outlets.now) (lent_all a.subaccumulation.now a.starts.now a.counts.now a.work.now) c.in-Ok.ensures.0 s refl
+    (omega (arith, most)) c.if-counts-outlets.true c.refused_all-then-counts-outlets.ensures
+
+pub invariant_of-grid : goal.invariant_of-grid
+invariant_of-grid c =
+    let a = c.args in
+    let s = c.in_default.ensures in
+    let fresh = all_fresh {c = (catchment a.rows a.cols a.codes.now a.accumulation.now a.outlets.now)} refl s refl in
+    record { lent = fresh.grid_lent }
 
 pub search_by-requires : goal.search_by-requires
 search_by-requires c =
-    let z = c.if-number-ne0.false in record {
-      fresh = all_fresh {c = (let a = c.args in
-          catchment a.rows a.cols a.codes.now a.accumulation.now a.outlets.now)} refl c.subaccumulate-number.ensures z;
-      traceable = traceable {c = (let a = c.args in
-          catchment a.rows a.cols a.codes.now a.accumulation.now a.outlets.now)} refl c.subaccumulate-number.ensures z (omega (
-            arith,
-            c.if-work-end.false,
-            (let held : numbers_each * c.index_of-end.result ≡ numbers_each * most_cells ((let a = c.args in catchment a.rows a.cols a.codes.now a.accumulation.now a.outlets.now)).grid ((let a = c.args in catchment a.rows a.cols a.codes.now a.accumulation.now a.outlets.now)).outlets = let q = most_is {c = (let a = c.args in
-                catchment a.rows a.cols a.codes.now a.accumulation.now a.outlets.now)} refl c.subaccumulate-number.ensures c.if-number-ne0.false c.most_cells.ensures in
-                omega (arith, c.index_of-end.ensures.0, q) in held),
-          ));
-      end_value = (
-        (let held : numbers_each * c.index_of-end.result ≡ numbers_each * most_cells ((let a = c.args in catchment a.rows a.cols a.codes.now a.accumulation.now a.outlets.now)).grid ((let a = c.args in catchment a.rows a.cols a.codes.now a.accumulation.now a.outlets.now)).outlets = let q = most_is {c = (let a = c.args in
-            catchment a.rows a.cols a.codes.now a.accumulation.now a.outlets.now)} refl c.subaccumulate-number.ensures c.if-number-ne0.false c.most_cells.ensures in
-            omega (arith, c.index_of-end.ensures.0, q) in held),
-        c.if-counts-outlets.false,
-      );
+    let a = c.args in
+    let s = c.in_default.ensures in
+    let most = most_is {c = (catchment a.rows a.cols a.codes.now a.accumulation.now a.outlets.now)} refl s refl c.most_cells.ensures in record {
+      fresh = all_fresh {c = (catchment a.rows a.cols a.codes.now a.accumulation.now a.outlets.now)} refl s refl;
+      traceable = traceable {c = (catchment a.rows a.cols a.codes.now a.accumulation.now a.outlets.now)} refl s refl
+          (omega (arith, most));
+      end_value = (omega (arith, most), c.if-counts-outlets.false);
     }
 
 pub returns : goal.returns
 returns c =
-    rw c.search_by.ensures.subaccumulation_unchanged
-    (all_searched c.args.edition ((let a = c.args in
-    catchment a.rows a.cols a.codes.now a.accumulation.now a.outlets.now)) ((let a = c.args in
-    lent_all a.subaccumulation.now a.starts.now a.counts.now a.work.now)) ((sym c.is_edition.ensures ∙ c.if-not-is_edition.false)) c.subaccumulate-number.ensures
-    c.if-number-ne0.false (omega (
-      arith,
-      c.if-work-end.false,
-      (let held : numbers_each * c.index_of-end.result ≡ numbers_each * most_cells ((let a = c.args in catchment a.rows a.cols a.codes.now a.accumulation.now a.outlets.now)).grid ((let a = c.args in catchment a.rows a.cols a.codes.now a.accumulation.now a.outlets.now)).outlets = let q = most_is {c = (let a = c.args in
-          catchment a.rows a.cols a.codes.now a.accumulation.now a.outlets.now)} refl c.subaccumulate-number.ensures c.if-number-ne0.false c.most_cells.ensures in
-          omega (arith, c.index_of-end.ensures.0, q) in held),
-    )) c.if-counts-outlets.false c.search_by.ensures.searches_all)
+    let a = c.args in
+    let s = c.in_default.ensures in
+    let most = most_is {c = (catchment a.rows a.cols a.codes.now a.accumulation.now a.outlets.now)} refl s refl c.most_cells.ensures in
+    let r = c.search_by in
+    let done = subst (λ (e : ℕ). SearchesAll e (grid_of a.rows a.cols a.codes.now) a.outlets.now a.starts.now a.counts.now
+    a.work.now r.result r.new.starts r.new.counts r.new.work) c.in-Ok.ensures.1 r.ensures.searches_all in
+    rw r.ensures.subaccumulation_unchanged
+    (all_searched a.edition (catchment a.rows a.cols a.codes.now a.accumulation.now a.outlets.now) (lent_all a.subaccumulation.now a.starts.now a.counts.now a.work.now) c.in-Ok.ensures.0 s refl
+    (omega (arith, most)) c.if-counts-outlets.false done)

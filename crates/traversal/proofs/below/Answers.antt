@@ -1,25 +1,15 @@
 -- `traversal::below` meets its contract: it is the move in the code's direction.
 -- Assumes nothing.
-use native.Mathlib.Omega.{arith}
 use mathlib.Core.Path.{◌∙◌}
-use Rattle.traversal.proofs.Moving.{at_inside, place_below, next_beside, next_there, turn_back}
+use Rattle.traversal.proofs.Moving.{place_below, next_beside, next_there, turn_back}
 use Rattle.traversal.proofs.below.Goals as goal
 
-pub bounds-codes-x : goal.bounds-codes-x
-bounds-codes-x c = let s = c.requires.on_position in omega (arith, at_inside s, s.on.grid.has_codes)
-
-pub overflow_add-turn : goal.overflow_add-turn
-overflow_add-turn c = let s = c.requires in omega (arith, place_below s.on_position c.place_of-k.ensures s.has_next)
-
-pub moved-requires : goal.moved-requires
-moved-requires c = let s = c.requires in
-    record {
-      on_position = s.on_position;
-      k_bound = (
-        place_below s.on_position c.place_of-k.ensures s.has_next,
-        next_beside s.on_position c.place_of-k.ensures s.has_next,
-      );
-    }
+pub moved-requires-clause-k_bound : goal.moved-requires-clause-k_bound
+moved-requires-clause-k_bound c =
+    let s = c.requires in (
+      place_below s.on_position c.place_of-k.ensures s.has_next,
+      next_beside s.on_position c.place_of-k.ensures s.has_next,
+    )
 
 pub returns : goal.returns
 returns c =

@@ -3,33 +3,17 @@
 use mathlib.Core.Path.{refl, sym, ap, ◌∙◌}
 use mathlib.Core.Option.{some}
 use native.Mathlib.Omega.{arith}
-use Rattle.traversal.proofs.Moving.{number_is, number_fits, row_fits, row_some, col_fits, col_some}
+use Rattle.traversal.proofs.Moving.{number_is, row_some, col_some}
 use Rattle.traversal.proofs.Moving.{number_there, numbered_there}
 use Rattle.traversal.proofs.moved.Goals as goal
-
-pub overflow_add-row : goal.overflow_add-row
-overflow_add-row c =
-    omega (arith, row_fits c.requires.on_position c.requires.k_bound.0 c.requires.k_bound.1 c.neighbour_at-n.ensures)
 
 pub overflow_sub-row : goal.overflow_sub-row
 overflow_sub-row c =
     row_some c.requires.on_position c.requires.k_bound.0 c.requires.k_bound.1 c.neighbour_at-n.ensures
 
-pub overflow_add-col : goal.overflow_add-col
-overflow_add-col c =
-    omega (
-      arith,
-      col_fits c.requires.on_position c.requires.k_bound.0 c.requires.k_bound.1
-          c.neighbour_at-n.ensures,
-    )
-
 pub overflow_sub-col : goal.overflow_sub-col
 overflow_sub-col c =
     col_some c.requires.on_position c.requires.k_bound.0 c.requires.k_bound.1 c.neighbour_at-n.ensures
-
-pub overflow_add-at : goal.overflow_add-at
-overflow_add-at c =
-    omega (arith, number_fits c.requires.on_position c.requires.k_bound.0 c.requires.k_bound.1.1)
 
 pub overflow_sub-at : goal.overflow_sub-at
 overflow_sub-at c =

@@ -5,7 +5,5 @@ use Rattle.writing.proofs.put_pair.Goals as goal
 
 pub returns : goal.returns
 returns c =
-    let p = c.put-after in
-    let q = c.put_number-middle in
-    let r = c.put_number in
-    puts_then (puts_then p.ensures q.ensures) r.ensures
+    let a = c.args in
+    puts_then c.put-after.ensures (puts_then c.put_number-middle.ensures c.put_number.ensures)

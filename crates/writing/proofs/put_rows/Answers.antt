@@ -20,49 +20,21 @@ fits at row rows cols n t e h = omega (arith, next_fits row rows (4 + cols) t, e
 
 pub loop-row-init : goal.loop-row-init
 unfolding row_records
-loop-row-init c = (search rules, refl, puts_none)
+loop-row-init c = (refl, puts_none)
 
-pub overflow_mul-start : goal.overflow_mul-start
-overflow_mul-start c =
-    let a = c.args in
-    let l = c.loop-row in
-    omega (arith, lent l.row a.rows a.cols (length a.codes.now) c.loop-row-test.true c.requires.1)
-
-pub overflow_add-end : goal.overflow_add-end
-overflow_add-end c =
-    let a = c.args in
-    let l = c.loop-row in
-    omega (arith, lent l.row a.rows a.cols (length a.codes.now) c.loop-row-test.true c.requires.1)
-
-pub slice_bounds-put_row-end : goal.slice_bounds-put_row-end
-slice_bounds-put_row-end c =
-    let a = c.args in
-    let l = c.loop-row in
-    omega (arith, lent l.row a.rows a.cols (length a.codes.now) c.loop-row-test.true c.requires.1)
-
-pub put_row-here-requires : goal.put_row-here-requires
-put_row-here-requires c =
+pub put_row-at-requires : goal.put_row-at-requires
+put_row-at-requires c =
     let a = c.args in
     let l = c.loop-row in
     let h = lent l.row a.rows a.cols (length a.codes.now) c.loop-row-test.true c.requires.1 in
     let size = part_length a.cols (l.row * a.cols) a.codes.now h in
-    let at = rows_land a.cols l.row a.codes.now l.invariant.2 (omega (arith, h)) in
-    let room = fits l.here.at l.row a.rows a.cols (length a.file.now) c.loop-row-test.true at c.requires.0 in
-    (omega (arith, room, l.invariant.1, size), search rules)
+    let at = rows_land a.cols l.row a.codes.now l.invariant.1 (omega (arith, h)) in
+    let room = fits l.at l.row a.rows a.cols (length a.file.now) c.loop-row-test.true at c.requires.0 in
+    (omega (arith, room, l.invariant.0, size), search rules)
 
 pub loop-row-preserved : goal.loop-row-preserved
 loop-row-preserved c =
     let a = c.args in
     let l = c.loop-row in
-    let p = c.put_row-here in (
-      search rules,
-      p.auto.file ∙ l.invariant.1,
-      rw (rows_next a.cols l.row a.codes.now) (puts_then l.invariant.2 p.ensures),
-    )
-
-pub returns : goal.returns
-returns c =
-    let a = c.args in
-    let l = c.loop-row in
-    let e : l.row ≡ a.rows = omega arith in
-    rw e at l.invariant.2
+    let p = c.put_row-at in
+    (p.auto.file ∙ l.invariant.0, rw (rows_next a.cols l.row a.codes.now) (puts_then l.invariant.1 p.ensures))

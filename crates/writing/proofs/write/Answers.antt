@@ -1,30 +1,29 @@
 -- `writing::write` meets its contract: refused, nothing is written; accepted, the spelling.
 -- Assumes nothing.
 use mathlib.Core.Path.{refl}
-use Rattle.writing.proofs.WholeSheet.{nothing_written, accepted_number, sheet_written}
+use Rattle.std.specs.Prelude.{Ok}
+use Rattle.std.proofs.lemmas.Result.{err_from_is_err_and}
+use Rattle.answers.proofs.Refusals.{has_number}
 use Rattle.spelling.specs.Content.{content}
+use Rattle.writing.proofs.WholeSheet.{nothing_written, accepted_number, sheet_written}
 use Rattle.writing.proofs.write.Goals as goal
 
-pub returns-then-written-ne0 : goal.returns-then-written-ne0
-returns-then-written-ne0 c =
+pub returns-in_err-length : goal.returns-in_err-length
+returns-in_err-length c =
     let a = c.args in
-    let lent = content a.rows a.cols a.codes.now a.outlets.now in
-    let j = c.judge_content-written in
-    let f = a.file.now in
-    nothing_written lent f j.result (j.ensures f refl) c.if-written-ne0.true
+    let p = err_from_is_err_and c.from_residual.result c.from_residual.ensures.1 in
+    rw (p.1, p.2)
+    (nothing_written (content a.rows a.cols a.codes.now a.outlets.now) a.file.now _
+    (c.in_err-length.ensures a.file.now refl) (has_number c.in_err-length.field-0.0))
 
 pub put_sheet-requires : goal.put_sheet-requires
 put_sheet-requires c =
     let a = c.args in
-    let lent = content a.rows a.cols a.codes.now a.outlets.now in
-    let j = c.judge_content-written in
-    let f = a.file.now in
-    accepted_number lent f j.result (j.ensures f refl) c.if-written-ne0.false
+    accepted_number (content a.rows a.cols a.codes.now a.outlets.now) a.file.now (Ok c.in_ok-length.length)
+    (c.in_ok-length.ensures a.file.now refl) refl
 
 pub returns : goal.returns
 returns c =
     let a = c.args in
-    let lent = content a.rows a.cols a.codes.now a.outlets.now in
-    let j = c.judge_content-written in
-    let f = a.file.now in
-    sheet_written lent f j.result (j.ensures f refl) c.if-written-ne0.false c.put_sheet.ensures
+    sheet_written (content a.rows a.cols a.codes.now a.outlets.now) a.file.now (Ok c.in_ok-length.length)
+    (c.in_ok-length.ensures a.file.now refl) refl c.put_sheet.ensures

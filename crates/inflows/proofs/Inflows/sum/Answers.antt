@@ -1,27 +1,23 @@
--- `inflows::Inflows::sum` meets its contract. The loop's invariant: the total is the sum of the values before i, each
--- of which is below 2 ^ 32. Assumes nothing.
-use mathlib.Core.Path.{refl, ap, ◌∙◌}
-use Prim.Native.Nat.{◌<◌}
+-- `inflows::Inflows::sum` meets its contract: eight values, each below 2 ^ 32, are added up.
+-- Assumes nothing.
+use mathlib.Core.Path.{◌∙◌}
 use native.Mathlib.Omega.{arith}
 use borrow.Author.Rules.{rules}
-use lib.ListN.{length}
-use lib.Seq.{take_all}
-use Rattle.lists.specs.Lists.{sum_of}
-use Rattle.inflows.proofs.InflowRecord.{sum_take}
+use Rattle.std.proofs.Common.{tests}
+use Rattle.std.proofs.lemmas.Iterator.{YieldsList-from_map, YieldsList-from_slice}
+use Rattle.std.proofs.lemmas.Iterator.Adapters.{fits_from_length, at_most_from_yields_List}
+use Rattle.std.proofs.lemmas.Iterator.Consumers.{sum_by_from_yields_List}
+use Rattle.inflows.proofs.InflowRecord.{sum_is}
 use Rattle.inflows.proofs.Inflows.sum.Goals as goal
 
-pub loop-i-init : goal.loop-i-init
-unfolding sum_of
-loop-i-init c = (search rules, search rules, search rules, refl)
-
-pub loop-i-preserved : goal.loop-i-preserved
-loop-i-preserved c =
-    let i = c.loop-i.i in
-    let l = c.args.self.values in
-    let h : i < length l = omega arith in
-    (search rules, search rules, search rules, omega (arith, sum_take l i h))
+pub sum-requires-clause-fits : goal.sum-requires-clause-fits
+sum-requires-clause-fits c =
+    fits_from_length _ _ 8 _ (at_most_from_yields_List (YieldsList-from_slice c.args.self.values cc) (search rules))
+    c.map.ensures.closure (omega arith) (λ x r q k. search (rules, tests))
 
 pub returns : goal.returns
 returns c =
-    c.loop-i.invariant.3
-    ∙ ap sum_of (take_all c.loop-i.i c.args.self.values (omega arith))
+    sum_by_from_yields_List (λ x. x) _ _ _ c.sum.ensures.ran
+    (YieldsList-from_map _ (λ x. x) (YieldsList-from_slice c.args.self.values cc) c.map.ensures.closure
+    (λ x r q k. search rules))
+    ∙ sum_is c.args.self.values

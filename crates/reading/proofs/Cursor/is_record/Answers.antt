@@ -1,20 +1,20 @@
--- `reading::Cursor::is_record` meets its contract: each test decides it, or leaves it to the next.
+-- `reading::Cursor::is_record` meets its contract.
 -- Assumes nothing.
-use native.Mathlib.Omega.{arith}
-use Rattle.reading.proofs.Bytes.{no_room, other_first, by_second}
+use mathlib.Core.Path.{◌∙◌}
+use lib.ListN.{drop}
+use Rattle.std.proofs.lemmas.List.{take_rest}
+use Rattle.reading.proofs.Bytes.{no_room, by_mark}
 use Rattle.reading.proofs.Cursor.is_record.Goals as goal
 
-pub returns-then-file-at : goal.returns-then-file-at
-returns-then-file-at c =
+pub returns-then-size-rest : goal.returns-then-size-rest
+returns-then-size-rest c =
     let a = c.args in
-    no_room a.file.now a.self.at a.first a.second a.size c.if-file-at.true
+    let rest = take_rest a.file.now a.self.at in
+    (rw rest at c.starts_with.ensures.value)
+    ∙ by_mark (drop a.self.at a.file.now) a.letters.now a.size (rw rest at c.if-size-rest.true) c.requires.0 c.told-letters
 
-pub returns-then-file-at-2 : goal.returns-then-file-at-2
-returns-then-file-at-2 c =
+pub returns-else-size-rest : goal.returns-else-size-rest
+returns-else-size-rest c =
     let a = c.args in
-    other_first a.file.now a.self.at a.first a.second a.size (omega arith) c.if-file-at-2.true
-
-pub returns : goal.returns
-returns c =
-    let a = c.args in
-    by_second a.file.now a.self.at a.first a.second a.size (omega arith) c.if-file-at-2.false
+    let rest = take_rest a.file.now a.self.at in
+    rw rest (no_room (drop a.self.at a.file.now) a.letters.now a.size (rw rest at c.if-size-rest.false))

@@ -8,7 +8,4 @@ pub returns : goal.returns
 returns c =
     let a = c.args in
     let n = number_is a.file.now a.self.at a.skip in
-    record {
-      same = omega (arith, c.byte_value.ensures, c.byte_value-2.ensures, n);
-      small = omega arith;
-    }
+    record { same = omega (arith, c.from_le_bytes.ensures, c.from.ensures, n); small = omega arith }
