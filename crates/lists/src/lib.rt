@@ -1,7 +1,8 @@
 // Small functions over lists and lent slices.
 #![tactic(auto)]
 
-ghost use Rattle.std.specs.Prelude.{◌≡◌, ◌≤◌, length, drop};
+ghost use Rattle.std.specs.Prelude.{◌≡◌, ◌≤◌, ◌+◌, length, drop};
+ghost use Rattle.std.proofs.lemmas.List.Edits.{sets};
 ghost use Rattle.lists.specs.Lists.{member};
 ghost use Rattle.lists.specs.Slices.{Cleared};
 
@@ -11,6 +12,17 @@ pub fn clear(n: usize, list: &mut [u32])
     ensures { Cleared n n list.old list.new }
 {
     list[..n].fill(0);
+}
+
+// Copies a list to the places from one on. Byte by byte: by `copy_from_slice` the library for C would need `memmove` from
+// outside.
+pub fn copy(from: &[u8], to: &mut [u8], place: usize)
+    requires { place + length from.now ≤ length to.old }
+    ensures { to.new ≡ sets to.old place from.now }
+{
+    for i in 0..from.len() {
+        to[place + i] = from[i];
+    }
 }
 
 // Does a number stand in the list, at a place or after it? By an index: through an iterator the compiler would not set the
