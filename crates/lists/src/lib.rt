@@ -17,5 +17,7 @@ pub fn clear(n: usize, list: &mut [u32])
 pub fn is_among(list: &[u32], from: usize, x: usize) -> bool
     ensures { result ≡ member x (drop from list.now) }
 {
-    list.iter().skip(from).any(|y| *y as usize == x)
+    list[from.min(list.len())..]
+        .iter()
+        .any(|y| *y as usize == x)
 }
