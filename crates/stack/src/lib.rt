@@ -16,7 +16,7 @@ use cells::Cell;
 use inflows::{Inflows, inflows_of};
 use lengths::Length;
 use moves::Grid;
-use notes::{Edition, cells_held, is_met};
+use notes::{cells_held, is_met};
 use progress::{Progress, begin, drop_cells, is_dropped, visit};
 use upstream::{FilledGrid, is_inner, step_at, tributary};
 
@@ -149,7 +149,7 @@ fn climb(filled: FilledGrid, cell: Cell, n: u32, len: Length, top: usize, work: 
 // A cell is visited at its length, met or not by the edition, and its inflows wait. A headwater has none.
 fn enter_cell(
     filled: FilledGrid,
-    edition: Edition,
+    edition: u32,
     cell: Cell,
     len: Length,
     end: usize,
@@ -180,7 +180,7 @@ fn enter_cell(
 // compiler makes one loop of the whole search.
 fn enter_outlet(
     filled: FilledGrid,
-    edition: Edition,
+    edition: u32,
     cell: Cell,
     len: Length,
     end: usize,
@@ -206,7 +206,7 @@ fn enter_outlet(
 // One pending cell is taken off, and dropped or entered.
 fn turn(
     filled: FilledGrid,
-    edition: Edition,
+    edition: u32,
     dropping: bool,
     end: usize,
     s: Stack,
@@ -232,7 +232,7 @@ fn turn(
 // stand at their front, and the starts before their end.
 pub fn trace(
     filled: FilledGrid,
-    edition: Edition,
+    edition: u32,
     dropping: bool,
     cell: Cell,
     work: &mut [u32],
