@@ -165,10 +165,14 @@ fn enter_cell(
     let at = cell.row * filled.grid.cols + cell.col;
     let word = filled.subaccumulation[at];
     let n = cells_held(word);
-    let progress = visit(work, end, at as u32, is_met(edition, word), len, p);
+    let met = is_met(edition, word);
     if n == 1 {
-        return Stack { progress, top };
+        return Stack {
+            progress: visit(work, end, at as u32, met, len, p),
+            top,
+        };
     }
+    let progress = visit(work, end, at as u32, met, len, p);
     let higher = climb(filled, cell, n, len, top, work);
     Stack {
         progress,
