@@ -1,5 +1,7 @@
 -- `drawing::draw_into` meets its contract: what is judged is written or refused.
 -- Assumes nothing.
+use Rattle.std.proofs.Common.{arith}
+use Rattle.std.proofs.lemmas.Grind.{common_steps}
 use Rattle.answers.specs.Drawing.{drawing_of}
 use Rattle.drawing.proofs.Accepted.{drawable, cells_written}
 use Rattle.drawing.proofs.draw_into.Goals as goal
@@ -20,4 +22,4 @@ pub returns : goal.returns
 returns c =
     let a = c.args in
     let q = drawing_of a.rows a.cols a.codes.now a.accumulation.now a.outlets.now a.place a.start in
-    cells_written q a.path.now c.in_ok-count.ensures c.write_cells.ensures
+    cells_written q a.path.now c.in_ok-count.ensures (grind (arith, common_steps))
