@@ -109,6 +109,15 @@ module _ (q : Drawing) (lent : List ℕ) where
     pub drawable : Drawable q.catchment.grid q.start count (length lent)
     drawable = rw judged.counts (part_drawable (sym judged.answers))
 
+    pub drawable_in_part : {n : ℕ} → n ≤ count → Drawable q.catchment.grid q.start n (length lent)
+    drawable_in_part h = record {
+      grid = drawable.grid;
+      some_cols = drawable.some_cols;
+      start_in = drawable.start_in;
+      few = omega (arith, h, drawable.few);
+      has_room = omega (arith, h, drawable.has_room);
+    }
+
     pub cells_written : {new : List ℕ} → new ≡ overlaid (first_cells q.catchment.grid q.start count) lent
         → Draws q lent 0 count new
     cells_written e = record {

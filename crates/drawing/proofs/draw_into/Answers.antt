@@ -3,7 +3,7 @@
 use Rattle.std.proofs.Common.{arith}
 use Rattle.std.proofs.lemmas.Grind.{common_steps}
 use Rattle.answers.specs.Drawing.{drawing_of}
-use Rattle.drawing.proofs.Accepted.{drawable, cells_written}
+use Rattle.drawing.proofs.Accepted.{drawable, drawable_in_part, cells_written}
 use Rattle.drawing.proofs.draw_into.Goals as goal
 
 pub invariant_of-grid : goal.invariant_of-grid
@@ -16,7 +16,7 @@ pub write_cells-requires : goal.write_cells-requires
 write_cells-requires c =
     let a = c.args in
     let q = drawing_of a.rows a.cols a.codes.now a.accumulation.now a.outlets.now a.place a.start in
-    drawable q a.path.now c.in_ok-count.ensures
+    drawable_in_part q a.path.now c.in_ok-count.ensures (omega arith)
 
 pub returns : goal.returns
 returns c =
