@@ -146,6 +146,7 @@ fn put_sheet(rows: usize, cols: usize, codes: &[u8], outlets: &[u32], file: &mut
 
 // Writes a sheet, and answers with the length of its file in bytes: 2, 3, 5, 8, 7, 23. The content and the room are
 // judged before a byte is written.
+#[tactic(auto, using(crate::proofs::WholeSheet::nothing_written, answers::proofs::Refusals::has_number))]
 pub fn write(
     rows: usize,
     cols: usize,
