@@ -40,13 +40,13 @@ pub store_codes-requires : goal.store_codes-requires
 store_codes-requires c =
     let a = c.args in
     let s = accepted a.file.now a.codes.now a.outlets.now c.in_ok-sheet.sheet c.in_ok-sheet.ensures in
-    (s.rows_fit, s.has_grid)
+    (omega (arith, s.rows_fit), omega (arith, s.has_grid))
 
 pub store_outlets-requires : goal.store_outlets-requires
 store_outlets-requires c =
     let a = c.args in
     let s = accepted a.file.now a.codes.now a.outlets.now c.in_ok-sheet.sheet c.in_ok-sheet.ensures in
-    (s.outlets_fit, s.has_list, s.cols_small)
+    (omega (arith, s.outlets_fit), omega (arith, s.has_list), s.cols_small)
 
 pub returns : goal.returns
 returns c =
