@@ -29,6 +29,7 @@ pub fn accumulate(
 }
 
 // Checks an accumulation: 10, 11, 12, 14.
+#[tactic(auto, unfolding(answers::specs::Entries::check_number))]
 pub fn check_accumulation(
     rows: usize,
     cols: usize,

@@ -42,12 +42,14 @@ pub record Sized (rows cols : ℕ) (codes lent : List ℕ) : Type 0 where
   pub some_cols : 0 < cols
   pub reach : (m : ℕ) → In m lent → rows * cols ≤ m
 
--- THE SIZES, where the number is none of 10 to 12
-pub sized : (g : Grid) (lent : List ℕ) (rest : List Check) (n : ℕ) → (n < 10) ⊎ (12 < n)
+-- THE SIZES, where the number is none of 10 and 11
+pub sized : (g : Grid) (lent : List ℕ) (rest : List Check) (n : ℕ) → (n < 10) ⊎ (11 < n)
     → first_failed (grid_checks g lent ++ rest) ≡ n → Sized g.rows g.cols g.codes lent
-unfolding check10 check11 check12
+unfolding check10 check11
 sized g lent rest n i e =
-    let p = passed 12 n (grid_checks g lent) rest refl i e in
+    let sides = check10 g.rows g.cols in
+    let room = check11 g.rows g.cols (length g.codes ∷ lent) in
+    let p = passed 11 n (sides ∷ room ∷ []) (check12 g ∷ rest) refl i e in
     let sides = and_both (is_side g.rows) (is_side g.cols) (p 10) in
     let row = side_small g.rows sides.0 in
     let col = side_small g.cols sides.1 in

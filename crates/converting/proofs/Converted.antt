@@ -2,7 +2,7 @@
 -- Assumes nothing.
 use mathlib.Core.Path.{◌≡◌, refl, sym, ap, ◌∙◌, subst}
 use mathlib.Core.Bool.{true, false, ◌&&◌}
-use mathlib.Core.Logic.{inl}
+use mathlib.Core.Logic.{◌⊎◌, inl}
 use mathlib.Core.List.{List, [], ◌∷◌}
 use Prim.Native.Nat.{ℕ, ◌*◌, ◌≤◌, ◌<◌}
 use native.Mathlib.Omega.{arith}
@@ -63,42 +63,47 @@ module _ (c : Conversion) (old : List ℕ) where
     unfolding convert_leaves
     refused f = record { answers = number_is; leaves = rw (sym number_is, ne_eqb number 0 f) }
 
-  -- ACCEPTED
-  module _ (from_is : is_table c.from ≡ true) (to_is : is_table c.to ≡ true)
-      (passes : 0 ≡ first_failed (grid_checks g (length old ∷ []))) where
-    sizes : Sized g.rows g.cols g.codes (length old ∷ [])
-    sizes = sized g (length old ∷ []) [] 0 (inl (omega arith)) (sym passes)
+    -- THE SIZES PASS
+    module _ (late : (number < 10) ⊎ (11 < number)) where
+      sizes : Sized g.rows g.cols g.codes (length old ∷ [])
+      sizes = sized g (length old ∷ []) [] number late (sym is)
 
-    codes_in : (x : ℕ) → x < cell_count g → is_code g.table (get_or g.codes x 0) ≡ true
-    unfolding check10 check11 check12
-    codes_in = all_below_lem _ (cell_count g)
-        (passed 12 0 (grid_checks g (length old ∷ [])) [] refl (inl (omega arith)) (sym passes) 12)
+      pub fits : cell_count g ≤ 4096 * 4096
+      fits = size sizes.grid.sides
 
-    pub fits : cell_count g ≤ 4096 * 4096
-    fits = size sizes.grid.sides
+      pub readable : {n : ℕ} {a b : List ℕ} → n ≡ cell_count g → a ≡ codes_of g.table → b ≡ codes_of (table_of c.to)
+          → Readable n a b g.codes old
+      readable e p q = record {
+        pairs = pairs g.table (table_of c.to) p q;
+        has_codes = omega (arith, e, sizes.grid.has_codes);
+        has_places = omega (arith, e, sizes.reach (length old) (inl refl));
+      }
 
-    pub readable : {n : ℕ} {a b : List ℕ} → n ≡ cell_count g → a ≡ codes_of g.table → b ≡ codes_of (table_of c.to)
-        → Readable n a b g.codes old
-    readable e p q = record {
-      pairs = pairs g.table (table_of c.to) p q;
-      has_codes = omega (arith, e, sizes.grid.has_codes);
-      has_places = omega (arith, e, sizes.reach (length old) (inl refl));
-    }
+    -- ACCEPTED
+    module _ (z : number ≡ 0) where
+      codes_in : (x : ℕ) → x < cell_count g → is_code g.table (get_or g.codes x 0) ≡ true
+      unfolding check10 check11 check12
+      codes_in = all_below_lem _ (cell_count g)
+          (passed 12 0 (grid_checks g (length old ∷ [])) [] refl (inl (omega arith)) (sym is ∙ z) 12)
 
-    pub told : {a b new : List ℕ} → a ≡ codes_of g.table → b ≡ codes_of (table_of c.to)
-        → Rewritten (cell_count g) (cell_count g) a b g.codes old new → Converts c old 0 new
-    unfolding convert_leaves
-    told {a} {b} {new} e f w = record { answers = number_is from_is to_is passes; leaves = over ∙ rw (sym (number_is from_is to_is passes)) }
-      where
-        to : Table
-        to = table_of c.to
+      pub told : {shown : ℕ} {a b new : List ℕ} → shown ≡ 0 → a ≡ codes_of g.table → b ≡ codes_of (table_of c.to)
+          → Rewritten (cell_count g) (cell_count g) a b g.codes old new → Converts c old shown new
+      unfolding convert_leaves
+      told {shown} {a} {b} {new} s e f w =
+          record { answers = s ∙ sym z ∙ number_is; leaves = over ∙ rw (sym number_is ∙ z) }
+        where
+          room : Sized g.rows g.cols g.codes (length old ∷ [])
+          room = sizes (inl (omega arith))
 
-        long : length (converted_codes g to) ≡ cell_count g
-        long = converted_length g to sizes.grid.has_codes
+          to : Table
+          to = table_of c.to
 
-        over : new ≡ overlaid (converted_codes g to) old
-        over = front_is (converted_codes g to) (omega (arith, long, sizes.reach (length old) (inl refl)))
-            (subst (λ (n : ℕ). Kept n old new) (sym long) w.kept)
-            (λ x h. let i : x < cell_count g = omega (arith, h, long) in
-            w.are_counterparts x i ∙ counterpart_recoded g.table to e f (get_or g.codes x 0) (codes_in x i)
-            ∙ sym (converted_at g to sizes.grid.has_codes x i))
+          long : length (converted_codes g to) ≡ cell_count g
+          long = converted_length g to room.grid.has_codes
+
+          over : new ≡ overlaid (converted_codes g to) old
+          over = front_is (converted_codes g to) (omega (arith, long, room.reach (length old) (inl refl)))
+              (subst (λ (n : ℕ). Kept n old new) (sym long) w.kept)
+              (λ x h. let i : x < cell_count g = omega (arith, h, long) in
+              w.are_counterparts x i ∙ counterpart_recoded g.table to e f (get_or g.codes x 0) (codes_in x i)
+              ∙ sym (converted_at g to room.grid.has_codes x i))

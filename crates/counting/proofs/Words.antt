@@ -5,13 +5,15 @@ use mathlib.Core.Bool.{Bool, true, false, cond}
 use mathlib.Core.List.{List, [], ◌∷◌}
 use mathlib.Core.Option.{Option as Maybe, none, some}
 use Rattle.std.specs.Prelude.{Option, Some, None, is_some}
-use Prim.Native.Nat.{ℕ, zero, suc, ◌+◌, ◌*◌, ◌<◌, ◌^◌}
+use Prim.Native.Nat.{ℕ, zero, suc, ◌+◌, ◌*◌, ◌≤◌, ◌<◌, ◌^◌}
+use native.Mathlib.Numerals.{add-one}
 use native.Mathlib.Omega.{arith}
 use Rattle.std.specs.List.{count_by}
 use Rattle.std.proofs.Math.Nat.{suc-ne-zero}
 use Rattle.std.proofs.lemmas.List.FromFn.{fill_by_all}
 use lib.ListN.{length, get_or}
 use Rattle.lists.specs.Lists.{how_many}
+use Rattle.lists.proofs.Counts.{many_le}
 use Rattle.ground.specs.Compass.{Dir, E, SE, S, SW, W, NW, N, NE, dirs}
 use Rattle.ground.specs.Grid.{Grid, Link, grid_of, cell_count, ground, neighbour, flows_in, inflow}
 use Rattle.ground.specs.Grid.{inflows_from, inflows}
@@ -113,3 +115,38 @@ module _ (g : Grid) (x : ℕ) where
                 (eight_are (flows_at g x) flows l h ∙ all_eight ∙ ap length (sym (ground_inflows g x v))),
             ground_word v,
           )
+
+  -- A WORD AT WORK: the inflows among the first k neighbours are counted
+  pub record SoFar (k w : ℕ) : Type 0 where
+    pub few : k ≤ 8
+    pub is_word : w ≡ suc (2 ^ 25 * how_many (flows_at g x) k)
+
+  pub begin : SoFar 0 1
+  unfolding how_many
+  begin = record { few = omega arith; is_word = omega arith }
+
+module _ {g : Grid} {x k w : ℕ} (s : SoFar g x k w) where
+  pub fits : w + 2 ^ 25 < 2 ^ 32
+  fits = omega (arith, s.few, s.is_word, many_le (flows_at g x) k)
+
+  -- one neighbour more is looked at, and flows in or not
+  module _ (h : k < 8) {flows : Bool} (e : flows ≡ flows_at g x k) where
+    pub more : flows ≡ true → SoFar g x (k + 1) (w + 2 ^ 25)
+    unfolding how_many
+    more t =
+        let m : how_many (flows_at g x) (k + 1) ≡ how_many (flows_at g x) k + 1 = rw (add-one k, sym e ∙ t) refl in
+        record { few = omega arith; is_word = omega (arith, s.is_word, m) }
+
+    pub no_more : flows ≡ false → SoFar g x (k + 1) w
+    unfolding how_many
+    no_more t =
+        let m : how_many (flows_at g x) (k + 1) ≡ how_many (flows_at g x) k + 0 = rw (add-one k, sym e ∙ t) refl in
+        record { few = omega arith; is_word = omega (arith, s.is_word, m) }
+
+  -- all eight are
+  pub all_counted : 8 ≤ k → ground g x ≡ true → w ≡ counted_word g x
+  all_counted h v =
+      let q : k ≡ 8 = omega (arith, s.few) in
+      s.is_word ∙ ap (λ (n : ℕ). suc (2 ^ 25 * how_many (flows_at g x) n)) q
+      ∙ ap (λ (n : ℕ). suc (2 ^ 25 * n)) (all_eight g x ∙ ap length (sym (ground_inflows g x v)))
+      ∙ sym (ground_word g x v)

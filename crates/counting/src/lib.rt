@@ -35,15 +35,24 @@ fn word_of(code: u8, flows: &[bool; 8]) -> u32
     if code == 0 { 0 } else { word }
 }
 
-// The word of any cell.
+// The word of any cell. It adds up one neighbour after the other: where all eight answers are kept first, a grid of one row
+// takes twice as long.
 fn word_at(grid: Grid, cell: Cell) -> u32
     requires { On grid cell }
     ensures { result ≡ counted_word (ground_of grid.entry) (number_in grid.entry cell) }
 {
-    word_of(
-        grid.codes[cell.row * grid.cols + cell.col],
-        &array::from_fn(|k| flows_in(grid, cell, k)),
-    )
+    let mut word = 1;
+    for k in 0..8 {
+        let flows = flows_in(grid, cell, k);
+        if flows {
+            word += INFLOW;
+        }
+    }
+    let here = cell.row * grid.cols + cell.col;
+    if grid.codes[here] == 0 {
+        return 0;
+    }
+    word
 }
 
 // The word of an inner cell. No border is tested.

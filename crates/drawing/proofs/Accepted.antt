@@ -9,24 +9,20 @@ use lib.ListN.{length, get_or, take, drop, length-take}
 use lib.Seq.{take_at}
 use lib.Dec.{eqb}
 use borrow.Author.Tests.{eqb-true, ne_eqb}
-use Rattle.std.specs.Prelude.{Result, Ok, Err}
-use Rattle.std.specs.Result.{IsErrAnd}
+use Rattle.std.specs.Prelude.{Ok}
 use Rattle.lists.specs.Slices.{overlaid}
 use Rattle.lists.proofs.Overlaid.{overlaid_front}
 use Rattle.ground.specs.Grid.{cell_count, ground}
 use Rattle.ground.specs.Subwatershed.{is_outlet}
 use Rattle.ground.proofs.Ground.{𝓝, at_most_cells}
 use Rattle.moves.proofs.Spots.{size}
-use Rattle.answers.specs.declared.Refusal.{Refusal}
-use Rattle.answers.specs.Refusals.{refusal_number, number_told}
-use Rattle.answers.proofs.Refusals.{has_number}
 use Rattle.answers.specs.Drawing.{Drawing, drawn_path, draw_number, draw_leaves, drawn_part, Draws}
 use Rattle.flowpath.specs.FlowPath.{outlet_of, IsPath}
 use Rattle.flowpath.specs.Measuring.{Surveyed}
 use Rattle.flowpath.proofs.Following.{positive, grows, start_solid}
-use Rattle.drawing.specs.Judging.{count_told, Judged}
+use Rattle.drawing.specs.Judging.{Judged}
 use Rattle.drawing.specs.Cells.{first_cells, Drawable}
-use Rattle.drawing.proofs.Judging.{same_err, chosen, inside_path, accepted_by}
+use Rattle.drawing.proofs.Judging.{chosen, inside_path, accepted_by}
 use Rattle.drawing.proofs.Writing.{path_cells}
 
 -- a flow path has no more cells than the grid: the accumulation grows with each
@@ -101,19 +97,26 @@ module _ (q : Drawing) (lent : List ℕ) where
       go false e = rw e (omega arith)
 
   -- ONCE IT IS JUDGED, a refusal writes nothing,
-  pub nothing_written : {refusal : Refusal} (r : Result ℕ Refusal) → IsErrAnd r (λ e. e ≡ refusal)
-      → Judged q lent (Err refusal) → Draws q lent (number_told r) (count_told r) lent
-  unfolding draw_leaves
-  nothing_written {refusal} r h judged = rw (same_err r h) (record {
-    answers = judged.answers;
-    counts = judged.counts;
-    leaves = rw (sym judged.answers, ne_eqb (refusal_number refusal) 0 (has_number refusal));
-  })
+  pub nothing_written : {number : ℕ} {new : List ℕ} → number ≡ draw_number q lent → (number ≡ 0 → ⊥) → new ≡ lent
+      → Draws q lent number 0 new
+  unfolding draw_leaves drawn_part
+  nothing_written e f same =
+      let n = ne_eqb (draw_number q lent) 0 (λ z. f (e ∙ z)) in
+      record { answers = e; counts = rw n; leaves = rw n same }
 
   -- and the cells of an accepted path are written
   module _ {count : ℕ} (judged : Judged q lent (Ok count)) where
     pub drawable : Drawable q.catchment.grid q.start count (length lent)
     drawable = rw judged.counts (part_drawable (sym judged.answers))
+
+    pub drawable_in_part : {n : ℕ} → n ≤ count → Drawable q.catchment.grid q.start n (length lent)
+    drawable_in_part h = record {
+      grid = drawable.grid;
+      some_cols = drawable.some_cols;
+      start_in = drawable.start_in;
+      few = omega (arith, h, drawable.few);
+      has_room = omega (arith, h, drawable.has_room);
+    }
 
     pub cells_written : {new : List ℕ} → new ≡ overlaid (first_cells q.catchment.grid q.start count) lent
         → Draws q lent 0 count new

@@ -65,6 +65,7 @@ fn judge(
 
 // Draws the path from a start to an outlet of the list into the first of the lent places, the start first and the
 // outlet last, and hands back how many of them hold it: 10, 11, 12, 14 to 18, 22, 23.
+#[tactic(auto, using(crate::proofs::Accepted::nothing_written))]
 pub fn draw_into(
     rows: usize,
     cols: usize,

@@ -2,7 +2,7 @@
 -- Assumes nothing.
 use mathlib.Core.Path.{◌≡◌, refl, sym, ap, ap₂, ◌∙◌, subst}
 use mathlib.Core.Bool.{Bool, true, false, cond, true≢false}
-use mathlib.Core.Logic.{inl, inr}
+use mathlib.Core.Logic.{◌⊎◌, inl, inr}
 use mathlib.Core.List.{List, [], ◌++◌}
 use mathlib.Core.Option.{Option, none, some}
 use Prim.Native.Nat.{ℕ, ◌*◌, ◌%◌, ◌≤◌, ◌<◌, ◌^◌}
@@ -29,6 +29,7 @@ use Rattle.answers.specs.Checks.{first_failed}
 use Rattle.answers.specs.Entries.{Catchment, outlet_checks}
 use Rattle.answers.specs.FlowLengths.{LengthGrids, length_grids, grid_lengths, lengths_over}
 use Rattle.answers.specs.FlowLengths.{flow_lengths_number, flow_lengths_leaves, TellsFlowLengths}
+use Rattle.moves.specs.Lent.{LentGrid}
 use Rattle.checks.proofs.Passed.{Listed, sized, listed}
 use Rattle.traversal.specs.Traversal.{Traversal}
 use Rattle.traversal.proofs.Traversing.{untouched, left_all}
@@ -166,6 +167,10 @@ module _ (c : Catchment) (old : LengthGrids) {number : ℕ} (is : number ≡ fir
   pub refused : (number ≡ 0 → ⊥) → TellsFlowLengths c old number old
   unfolding flow_lengths_number flow_lengths_leaves
   refused f = record { answers = is; leaves = rw (sym is, ne_eqb number 0 f) }
+
+  -- THE GRID, where the number is none of 10 and 11
+  pub grid_lent : (number < 10) ⊎ (11 < number) → LentGrid c.grid.rows c.grid.cols c.grid.codes
+  grid_lent late = (sized c.grid (grid_lengths c old) _ number late (sym is)).grid
 
   -- ACCEPTED
   module _ (z : number ≡ 0) where

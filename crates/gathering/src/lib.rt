@@ -64,6 +64,7 @@ fn list_inflows(
 
 // The last of n listed numbers changes places with number k, and is answered: of the cells still to be followed the
 // newest comes first, which lies near the one before it.
+#[tactic(auto, unfolding(crate::specs::Gathering::exchanged))]
 fn newest_first(k: usize, n: usize, list: &mut [u32]) -> usize
     requires { (k < n) × (n ≤ length list.old) }
     ensures { NewestFirst k n list.old result list.new }

@@ -3,23 +3,20 @@
 
 ghost use Rattle.std.specs.Prelude.{◌≡◌, ◌≤◌, length};
 ghost use Rattle.lists.specs.Slices.{overlaid};
-ghost use Rattle.answers.specs.Refusals.{refusal_number};
 ghost use Rattle.progress.specs.Starts.{kept};
 ghost use Rattle.listing.specs.Answering.{refused_with, answer_with};
 
-use answers::{Answer, Refusal, Traced};
+use answers::{Answer, Traced};
 use progress::Progress;
 
 // Refused before the search.
-pub fn refused(refusal: Refusal) -> Traced
-    ensures { result ≡ refused_with (refusal_number refusal) }
+pub fn refused(number: u32) -> Traced
+    ensures { result ≡ refused_with number }
 {
     Traced {
         visited: 0,
         dropped: 0,
-        answer: Answer::Refused {
-            number: refusal.number(),
-        },
+        answer: Answer::Refused { number },
     }
 }
 

@@ -4,13 +4,13 @@ use mathlib.Core.Path.{◌≡◌, refl, sym, ap, ◌∙◌, subst}
 use mathlib.Core.Bool.{Bool, true, false, true≢false, not, ◌||◌, or-true, or-false, or_assoc}
 use mathlib.Core.Logic.{inl, inr}
 use mathlib.Core.List.{List, [], ◌∷◌, ◌++◌}
-use Prim.Native.Nat.{ℕ, zero, suc, ◌+◌, ◌<◌}
+use Prim.Native.Nat.{ℕ, zero, suc, ◌+◌, ◌≤◌, ◌<◌}
 use native.Mathlib.Numerals.{add-one}
 use native.Mathlib.Omega.{arith}
-use lib.ListN.{length, get_or, take}
-use lib.Seq.{take-suc}
+use lib.ListN.{length, get_or, take, drop, drop_of_length-le}
+use lib.Seq.{drop-cons, take-suc}
 use lib.Dec.{eqb}
-use borrow.Author.Tests.{eqb-true, eq-eqb}
+use borrow.Author.Tests.{eqb-true, eq-eqb, ne_eqb}
 use Rattle.std.specs.List.{list_any}
 use Rattle.lists.specs.Lists.{In, Every, Sorted, member, different}
 use Rattle.lists.proofs.Lists.{and_both, every_is}
@@ -65,6 +65,18 @@ position_of x (y ∷ xs) e = go (eqb y x) refl (position_of x xs)
     go false f ih =
         let p = ih (rw f at e) in
         record { at = suc p.at; inside = omega (arith, p.inside); holds = p.holds }
+
+-- b says whether x is in the list, if what is left from i on decides it: at the element there, and at the end
+module _ (l : List ℕ) (i : ℕ) (b : Bool) (x : ℕ) (left : b ≡ member x (drop i l)) where
+  pub member_ends : length l ≤ i → false ≡ b
+  member_ends h = sym (left ∙ rw (drop_of_length-le l {i = i} h))
+
+  module _ (h : i < length l) where
+    pub member_found : get_or l i 0 ≡ x → true ≡ b
+    member_found e = sym (left ∙ rw (drop-cons l i 0 h, eq-eqb (get_or l i 0) x e))
+
+    pub member_goes_on : (get_or l i 0 ≡ x → ⊥) → b ≡ member x (drop (i + 1) l)
+    member_goes_on e = left ∙ rw (add-one i, drop-cons l i 0 h, ne_eqb (get_or l i 0) x e)
 
 -- ---- the first j and one more
 

@@ -4,11 +4,12 @@ use mathlib.Core.Path.{◌≡◌, refl, sym, ap, ◌∙◌, subst}
 use mathlib.Core.List.{List, [], ◌∷◌, ◌++◌, append-nil}
 use Prim.Native.Nat.{ℕ, suc, ◌+◌, ◌-◌, ◌≤◌, ◌<◌}
 use native.Mathlib.Nat.{add-zero}
+use native.Mathlib.Numerals.{add-one}
 use native.Mathlib.Omega.{arith}
 use native.Mathlib.Decide.{dec_lt}
 use lib.ListN.{length, get_or, set, take, drop, length-append, length-take, length-drop, drop_of_length-le}
 use lib.ListN.{length-replicate, get_or-replicate, get_or-append}
-use lib.Seq.{sets, sets-eq, take_all, take_at, take-append-le, ext_get_or, get_or-append-add, get_or-drop}
+use lib.Seq.{sets, sets-eq, drop-cons, take_all, take_at, take-append-le, ext_get_or, get_or-append-add, get_or-drop}
 use Rattle.lists.specs.Slices.{overlaid, zeros, Kept}
 
 -- what is left of a lent list is as long as it was
@@ -90,6 +91,14 @@ sets_overlaid l xs h =
     sets-eq xs l 0 (omega arith) ∙ rw e (sym (overlaid_front xs l h))
 
 -- ---- numbers stored one by one
+
+pub copy_next : (l from : List ℕ) (place i : ℕ) → i < length from
+    → sets l (place + i) (drop i from) ≡ sets (set l (place + i) (get_or from i 0)) (place + (i + 1)) (drop (i + 1) from)
+copy_next l from place i h =
+    let e : place + (i + 1) ≡ suc (place + i) = omega arith in rw (drop-cons from i 0 h, e, add-one i)
+
+pub copied : (l from : List ℕ) (at i : ℕ) → length from ≤ i → l ≡ sets l at (drop i from)
+copied l from at i h = rw (drop_of_length-le from {i = i} h)
 
 -- one run of stores after another
 pub sets_after : (xs ys l : List ℕ) (i : ℕ) → sets (sets l i xs) (i + length xs) ys ≡ sets l i (xs ++ ys)

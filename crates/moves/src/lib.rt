@@ -60,13 +60,17 @@ pub fn step_of(code: u8) -> Step
 }
 
 // The cell that a change of row and of column, each plus one, leads to. Row and column are tested apart, so that no
-// step wraps around a border.
+// step wraps around a border. They are compared with 1: by `checked_sub` the compiler would not unroll the loops over the
+// eight neighbours.
 pub fn spot_at(rows: usize, cols: usize, cell: Cell, down: usize, right: usize) -> Option<Cell>
     requires { InReach rows cols cell.row cell.col down right }
     ensures { Spotted rows cols cell.row cell.col down right result }
 {
-    let row = (cell.row + down).checked_sub(1)?;
-    let col = (cell.col + right).checked_sub(1)?;
+    if cell.row + down < 1 || cell.col + right < 1 {
+        return None;
+    }
+    let row = cell.row + down - 1;
+    let col = cell.col + right - 1;
     if rows <= row || cols <= col {
         return None;
     }

@@ -1,24 +1,9 @@
--- Which edition is at hand, and what is read off a word after a note is made or taken away.
+-- What is read off a word after a note is made or taken away.
 -- Assumes nothing.
-use mathlib.Core.Path.{◌≡◌, refl}
-use mathlib.Core.Bool.{not}
+use mathlib.Core.Path.{◌≡◌}
 use Prim.Native.Nat.{ℕ, ◌/◌, ◌%◌, ◌^◌}
 use native.Mathlib.Omega.{arith}
-use lib.Dec.{eqb}
-use denote.Enum.Bare.{sameb}
-use Rattle.notes.specs.declared.Edition.{Edition}
-use Rattle.notes.specs.declared.Edition.TheVariants.{First, Second}
-use Rattle.notes.specs.contracts.Edition.{the_type}
-use Rattle.notes.specs.Notes.{edition_number, cells_held, with_outlet, with_enclosed, with_inside, without_inside}
-
--- it is the second, or the first
-pub is_second : (e : Edition) → eqb (edition_number e) 2 ≡ sameb the_type e Second
-is_second First = refl
-is_second Second = refl
-
-pub not_first : (e : Edition) → eqb (edition_number e) 2 ≡ not (sameb the_type e First)
-not_first First = refl
-not_first Second = refl
+use Rattle.notes.specs.Notes.{cells_held, with_outlet, with_enclosed, with_inside, without_inside}
 
 -- the subaccumulation stays
 pub cells_enclosed : (w : ℕ) → cells_held (with_enclosed w) ≡ cells_held w

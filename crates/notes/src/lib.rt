@@ -3,7 +3,7 @@
 #![tactic(auto)]
 
 ghost use Rattle.std.specs.Prelude.{◌≡◌};
-ghost use Rattle.notes.specs.Notes.{cells_held, edition_number, met_by, OfNumber};
+ghost use Rattle.notes.specs.Notes.{cells_held, met_by, OfNumber};
 
 use answers::Refusal;
 
@@ -47,12 +47,9 @@ pub fn cells_held(word: u32) -> u32
 
 // Is a length met at a cell with this word? By edition 1, without notes, at a headwater, by edition 2 where the cell is
 // not enclosed.
-pub fn is_met(edition: Edition, word: u32) -> bool
-    ensures { result ≡ met_by (edition_number edition) word }
+pub fn is_met(edition: u32, word: u32) -> bool
+    ensures { result ≡ met_by edition word }
 {
-    let end = match edition {
-        Edition::First => 2,
-        Edition::Second => ENCLOSED,
-    };
+    let end = if edition == 2 { ENCLOSED } else { 2 };
     word < end
 }

@@ -2,8 +2,6 @@
 -- Assumes nothing.
 use Rattle.std.specs.Prelude.{List, ℕ}
 use Rattle.moves.specs.declared.grid.Grid.{Grid}
-use Rattle.notes.specs.declared.Edition.{Edition}
-use Rattle.notes.specs.Notes.{edition_number}
 use Rattle.noting.specs.Noting as noting
 
 abbrev pub Fresh : Grid → List ℕ → List ℕ → Type 0
@@ -12,5 +10,5 @@ Fresh g = noting.Fresh g.rows g.cols g.codes.now
 abbrev pub Places : Grid → List ℕ → ℕ → ℕ → List ℕ → Type 0
 Places g = noting.Places g.rows g.cols g.codes.now
 
-abbrev pub Readied : Edition → Grid → List ℕ → ℕ → ℕ → List ℕ → List ℕ → List ℕ → List ℕ → Type 0
-Readied edition g = noting.Readied (edition_number edition) g.rows g.cols g.codes.now
+abbrev pub Readied : ℕ → Grid → List ℕ → ℕ → ℕ → List ℕ → List ℕ → List ℕ → List ℕ → Type 0
+Readied edition g = noting.Readied edition g.rows g.cols g.codes.now

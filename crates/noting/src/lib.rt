@@ -3,18 +3,16 @@
 #![tactic(auto)]
 
 ghost use Rattle.std.specs.Prelude.{◌≤◌, length};
-ghost use Rattle.notes.specs.Notes.{edition_number};
 ghost use Rattle.noting.specs.Noting.{Unnoted};
 ghost use Rattle.noting.specs.Grids.{Fresh, Places, Readied};
 
 use divide::{clear_notes, note_enclosed, note_outlets};
 use moves::Grid;
-use notes::Edition;
 
 // Makes the grid ready for the searches of the outlets from one place of the list to before another. Their cells are
 // listed in the working space.
 pub fn make_ready(
-    edition: Edition,
+    edition: u32,
     grid: Grid,
     outlets: &[u32],
     first: usize,
@@ -27,7 +25,7 @@ pub fn make_ready(
     ensures { Readied edition grid.entry outlets.now first end subaccumulation.old list.old
         subaccumulation.new list.new }
 {
-    if edition == Edition::First {
+    if edition != 2 {
         return;
     }
     note_outlets(grid.rows * grid.cols, outlets, subaccumulation);
@@ -37,11 +35,11 @@ pub fn make_ready(
 }
 
 // Takes the notes of the first n words away.
-pub fn make_plain(edition: Edition, n: usize, subaccumulation: &mut [u32])
+pub fn make_plain(edition: u32, n: usize, subaccumulation: &mut [u32])
     requires { n ≤ length subaccumulation.old }
-    ensures { Unnoted (edition_number edition) n subaccumulation.old subaccumulation.new }
+    ensures { Unnoted edition n subaccumulation.old subaccumulation.new }
 {
-    if edition == Edition::Second {
+    if edition == 2 {
         clear_notes(n, subaccumulation);
     }
 }

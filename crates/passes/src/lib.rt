@@ -6,7 +6,6 @@ ghost use Rattle.std.specs.Prelude.{◌≤◌, ◌^◌, length};
 ghost use Rattle.lists.specs.Lists.{sum_of};
 ghost use Rattle.passes.specs.Grids.{path_counts, Searchable, CountsAll, ListsAll};
 
-use notes::Edition;
 use tracing::{list_at, search_at};
 use upstream::FilledGrid;
 
@@ -19,7 +18,7 @@ pub struct Sums {
 }
 
 // Searches each outlet, and adds up what it finds.
-pub fn count_all(filled: FilledGrid, edition: Edition, work: &mut [u32]) -> Sums
+pub fn count_all(filled: FilledGrid, edition: u32, work: &mut [u32]) -> Sums
     requires { Searchable edition filled work.old }
     ensures { CountsAll edition filled.entry work.old result work.new }
 {
@@ -42,7 +41,7 @@ pub fn count_all(filled: FilledGrid, edition: Edition, work: &mut [u32]) -> Sums
 // Searches each outlet once more, and writes its starts after those before it, and their count.
 pub fn list_all(
     filled: FilledGrid,
-    edition: Edition,
+    edition: u32,
     starts: &mut [u32],
     counts: &mut [u32],
     work: &mut [u32],

@@ -97,3 +97,8 @@ module _ (file grid list : List ℕ) (r : Result Sheet Refusal)
           stored = λ newGrid newList p q.
               record { answers = e; codes = p ∙ rw (rs, cs) codes_left; outlets = q ∙ rw (rs, cs, os) outlets_left };
         }
+
+-- places that hold what they held before the reading
+pub reads_as : {file grid list codes outlets newGrid newList : List ℕ} {r : Result Sheet Refusal} → grid ≡ codes
+    → list ≡ outlets → Reads file grid list r newGrid newList → Reads file codes outlets r newGrid newList
+reads_as p q reads = rw (← p, ← q) reads

@@ -8,6 +8,7 @@ ghost use Rattle.spelling.specs.Reading.{is_record, codes_from, outlets_from, sh
 ghost use Rattle.reading.specs.Steps.{NumberIs, row_says, rows_say, record_says, tail_says, records_answer};
 
 use answers::Refusal;
+use lists::copy;
 use spelling::{Sheet, are_sheet_sides};
 use tables::all_ours;
 
@@ -143,8 +144,7 @@ fn store_codes(file: &[u8], rows: usize, cols: usize, codes: &mut [u8])
     for row in 0..rows {
         let start = at + 4;
         let end = start + cols;
-        let to = row * cols;
-        codes[to..to + cols].copy_from_slice(&file[start..end]);
+        copy(&file[start..end], codes, row * cols);
         at = end;
     }
 }

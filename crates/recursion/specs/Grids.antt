@@ -3,8 +3,6 @@
 use Rattle.std.specs.Prelude.{Bool, List, ℕ, ◌+◌, ◌*◌, Option}
 use Rattle.lengths.specs.declared.Length.{Length}
 use Rattle.cells.specs.declared.Cell.{Cell}
-use Rattle.notes.specs.declared.Edition.{Edition}
-use Rattle.notes.specs.Notes.{edition_number}
 use Rattle.progress.specs.declared.Progress.{Progress}
 use Rattle.upstream.specs.declared.filled.FilledGrid.{FilledGrid}
 use Rattle.upstream.specs.Grids.{met_in}
@@ -24,8 +22,8 @@ TurnReady f cell = tracing.TurnReady f.grid.rows f.grid.cols f.grid.codes.now f.
 abbrev pub NextTurn : FilledGrid → Cell → ℕ → Option Turn → Type 0
 NextTurn f cell = tracing.NextTurn f.grid.rows f.grid.cols f.grid.codes.now f.outlets.now f.subaccumulation.now cell.row cell.col
 
-abbrev pub VisitedAt : Edition → FilledGrid → Cell → Length → Progress → List ℕ → Progress → List ℕ → Type 0
-VisitedAt edition f cell = tracing.VisitedAt (edition_number edition) f.subaccumulation.now (number_in f cell)
+abbrev pub VisitedAt : ℕ → FilledGrid → Cell → Length → Progress → List ℕ → Progress → List ℕ → Type 0
+VisitedAt edition f cell = tracing.VisitedAt edition f.subaccumulation.now (number_in f cell)
 
 abbrev pub CellReady : FilledGrid → Cell → Length → Progress → List ℕ → Type 0
 CellReady f cell = tracing.CellReady f.grid.rows f.grid.cols f.grid.codes.now f.outlets.now cell.row cell.col
@@ -33,13 +31,13 @@ CellReady f cell = tracing.CellReady f.grid.rows f.grid.cols f.grid.codes.now f.
 abbrev pub InflowsReady : FilledGrid → Cell → Length → ℕ → Progress → List ℕ → Type 0
 InflowsReady f cell = tracing.InflowsReady f.grid.rows f.grid.cols f.grid.codes.now f.outlets.now cell.row cell.col
 
-abbrev pub CellTraced : Edition → FilledGrid → Bool → Cell → Length → Progress → List ℕ → Progress → List ℕ → Type 0
+abbrev pub CellTraced : ℕ → FilledGrid → Bool → Cell → Length → Progress → List ℕ → Progress → List ℕ → Type 0
 CellTraced edition f dropping cell = tracing.CellTraced f.grid.rows f.grid.cols f.grid.codes.now f.outlets.now (met_in edition f) dropping
     cell.row cell.col
 
-abbrev pub InflowsTraced : Edition → FilledGrid → Bool → Cell → Length → ℕ → Progress → List ℕ → Progress → List ℕ → Type 0
+abbrev pub InflowsTraced : ℕ → FilledGrid → Bool → Cell → Length → ℕ → Progress → List ℕ → Progress → List ℕ → Type 0
 InflowsTraced edition f dropping cell = tracing.InflowsTraced f.grid.rows f.grid.cols f.grid.codes.now f.outlets.now (met_in edition f) dropping
     cell.row cell.col
 
-abbrev pub Traced : Edition → FilledGrid → Bool → Cell → Progress → List ℕ → Type 0
+abbrev pub Traced : ℕ → FilledGrid → Bool → Cell → Progress → List ℕ → Type 0
 Traced edition f dropping cell = tracing.Traced f.grid.rows f.grid.cols f.grid.codes.now f.outlets.now (met_in edition f) dropping cell.row cell.col

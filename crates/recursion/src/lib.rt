@@ -8,7 +8,7 @@ ghost use Rattle.recursion.specs.Grids.{CellReady, InflowsReady, CellTraced, Inf
 
 use cells::Cell;
 use lengths::{Length, Step};
-use notes::{Edition, cells_held, is_met};
+use notes::{cells_held, is_met};
 use progress::{Progress, begin, drop_cells, is_dropped, visit};
 use upstream::{FilledGrid, is_inner, step_at, tributary};
 
@@ -52,7 +52,7 @@ fn next_turn(filled: &FilledGrid, cell: Cell, k: usize) -> Option<Turn>
 // A cell is visited at its length, which is met if the cell's word says so by the edition.
 fn visit_at(
     filled: &FilledGrid,
-    edition: Edition,
+    edition: u32,
     cell: Cell,
     len: Length,
     p: Progress,
@@ -71,7 +71,7 @@ fn visit_at(
 #[cycle(trace_cell_trace_inflows)]
 fn trace_cell(
     filled: &FilledGrid,
-    edition: Edition,
+    edition: u32,
     dropping: bool,
     cell: Cell,
     len: Length,
@@ -90,7 +90,7 @@ fn trace_cell(
 #[cycle(trace_cell_trace_inflows)]
 fn trace_inflows(
     filled: &FilledGrid,
-    edition: Edition,
+    edition: u32,
     dropping: bool,
     cell: Cell,
     len: Length,
@@ -120,7 +120,7 @@ fn trace_inflows(
 // frame of the two functions of the cycle.
 pub fn trace(
     filled: FilledGrid,
-    edition: Edition,
+    edition: u32,
     dropping: bool,
     cell: Cell,
     found: &mut [u32; 4096],

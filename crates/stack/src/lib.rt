@@ -16,7 +16,7 @@ use cells::Cell;
 use inflows::{Inflows, inflows_of};
 use lengths::Length;
 use moves::Grid;
-use notes::{Edition, cells_held, is_met};
+use notes::{cells_held, is_met};
 use progress::{Progress, begin, drop_cells, is_dropped, visit};
 use upstream::{FilledGrid, is_inner, step_at, tributary};
 
@@ -149,7 +149,7 @@ fn climb(filled: FilledGrid, cell: Cell, n: u32, len: Length, top: usize, work: 
 // A cell is visited at its length, met or not by the edition, and its inflows wait. A headwater has none.
 fn enter_cell(
     filled: FilledGrid,
-    edition: Edition,
+    edition: u32,
     cell: Cell,
     len: Length,
     end: usize,
@@ -165,10 +165,14 @@ fn enter_cell(
     let at = cell.row * filled.grid.cols + cell.col;
     let word = filled.subaccumulation[at];
     let n = cells_held(word);
-    let progress = visit(work, end, at as u32, is_met(edition, word), len, p);
+    let met = is_met(edition, word);
     if n == 1 {
-        return Stack { progress, top };
+        return Stack {
+            progress: visit(work, end, at as u32, met, len, p),
+            top,
+        };
     }
+    let progress = visit(work, end, at as u32, met, len, p);
     let higher = climb(filled, cell, n, len, top, work);
     Stack {
         progress,
@@ -180,7 +184,7 @@ fn enter_cell(
 // compiler makes one loop of the whole search.
 fn enter_outlet(
     filled: FilledGrid,
-    edition: Edition,
+    edition: u32,
     cell: Cell,
     len: Length,
     end: usize,
@@ -206,7 +210,7 @@ fn enter_outlet(
 // One pending cell is taken off, and dropped or entered.
 fn turn(
     filled: FilledGrid,
-    edition: Edition,
+    edition: u32,
     dropping: bool,
     end: usize,
     s: Stack,
@@ -232,7 +236,7 @@ fn turn(
 // stand at their front, and the starts before their end.
 pub fn trace(
     filled: FilledGrid,
-    edition: Edition,
+    edition: u32,
     dropping: bool,
     cell: Cell,
     work: &mut [u32],

@@ -1,10 +1,13 @@
--- The faults of bytes by the codes looked at so far.
+-- The faults of bytes: of one by the codes looked at so far, and the worst of several.
 -- Assumes nothing.
-use mathlib.Core.Path.{◌≡◌, ◌∙◌}
-use mathlib.Core.Bool.{or-true, or-false}
+use mathlib.Core.Path.{◌≡◌, refl, ◌∙◌}
+use mathlib.Core.Bool.{Bool, true, false, ◌&&◌, or-true, or-false}
 use mathlib.Core.List.{List}
-use Prim.Native.Nat.{ℕ, ◌+◌, ◌<◌}
+use Prim.Native.Nat.{ℕ, ◌+◌, ◌≤◌, ◌<◌}
+use native.Mathlib.Numerals.{add-one}
+use native.Mathlib.Omega.{arith}
 use lib.ListN.{length, get_or, take}
+use lib.Dec.{eqb}
 use borrow.Author.Tests.{eq-eqb, ne_eqb}
 use Rattle.lists.specs.Lists.{member, all_below}
 use Rattle.lists.proofs.Members.{member_next}
@@ -26,3 +29,26 @@ pub all_in : (t : Table) {table : List ℕ} → table ≡ codes_of t → (codes 
     → all_below (λ x. member (get_or codes x 0) table) n ≡ all_below (λ x. is_code t (get_or codes x 0)) n
 unfolding is_code
 all_in t e codes n = rw e
+
+-- the worst fault before a number, the fault there, and the worse of the two
+module _ (f : ℕ → Bool) (n : ℕ) {worst fault : ℕ} (so_far : worst ≡ fault_of (all_below f n))
+    (here : fault ≡ fault_of (f n)) where
+  pub worse : worst < fault → fault ≡ fault_of (all_below f (n + 1))
+  worse = rw (so_far, here, add-one n) (go (f n) (all_below f n))
+    where
+      go : (b c : Bool) → fault_of c < fault_of b → fault_of b ≡ fault_of (b && c)
+      go true c h = absurd (omega arith)
+      go false c h = refl
+
+  pub no_worse : fault ≤ worst → worst ≡ fault_of (all_below f (n + 1))
+  no_worse = rw (so_far, here, add-one n) (go (f n) (all_below f n))
+    where
+      go : (b c : Bool) → fault_of b ≤ fault_of c → fault_of c ≡ fault_of (b && c)
+      go true c h = refl
+      go false true h = absurd (omega arith)
+      go false false h = refl
+
+-- no fault
+pub faultless : (b : Bool) {worst : ℕ} → worst ≡ fault_of b → eqb worst 0 ≡ b
+faultless true e = rw e
+faultless false e = rw e

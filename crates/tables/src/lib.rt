@@ -4,7 +4,7 @@
 
 ghost use Rattle.std.specs.Prelude.{◌≡◌, ◌≤◌, length, get_or};
 ghost use Rattle.lists.specs.Lists.{member, all_below};
-ghost use Rattle.ground.specs.Tables.{table1, codes_of, is_code};
+ghost use Rattle.ground.specs.Tables.{table1, table_of, codes_of, is_code};
 ghost use Rattle.tables.specs.Faults.{fault_of};
 ghost use Rattle.tables.specs.Numbered.{the_table, Numbered};
 
@@ -55,6 +55,15 @@ pub fn ours() -> [u8; 10]
     ensures { result ≡ codes_of table1 }
 {
     CodeTable::Powers.codes()
+}
+
+// The codes of the table of a number; ours of a number that is no table's.
+pub fn codes_of(number: u32) -> [u8; 10]
+    ensures { result ≡ codes_of (table_of number) }
+{
+    CodeTable::try_from(number)
+        .unwrap_or(CodeTable::Powers)
+        .codes()
 }
 
 // 12: 0 for a code of the table, 1 for any other byte. No code ends the loop, so that several bytes can be looked at at

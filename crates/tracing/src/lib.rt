@@ -27,7 +27,7 @@ use upstream::FilledGrid;
 // Traces an outlet by recursion, in a grid that holds the subaccumulation and comes back as it was. The starts wait in
 // an array, since those of a length that is exceeded later must not be seen in the list.
 fn by_recursion(
-    edition: Edition,
+    edition: u32,
     grid: Grid,
     outlets: &[u32],
     subaccumulation: &mut [u32],
@@ -68,7 +68,7 @@ fn by_recursion(
 // end of the working numbers that the outlet's cells take.
 pub fn search_at(
     filled: FilledGrid,
-    edition: Edition,
+    edition: u32,
     dropping: bool,
     place: usize,
     work: &mut [u32],
@@ -86,7 +86,7 @@ pub fn search_at(
 // The same, and the starts are listed.
 pub fn list_at(
     filled: FilledGrid,
-    edition: Edition,
+    edition: u32,
     dropping: bool,
     place: usize,
     starts: &mut [u32],
@@ -108,7 +108,7 @@ pub fn list_at(
 // Traces an outlet of so many cells from pending cells, in a grid that holds the subaccumulation and comes back as it
 // was. The working numbers are cleared.
 fn by_stack(
-    edition: Edition,
+    edition: u32,
     grid: Grid,
     outlets: &[u32],
     subaccumulation: &mut [u32],
@@ -186,10 +186,9 @@ pub fn trace_by_recursion(
         (lent subaccumulation.old starts.old)
         result (lent subaccumulation.new starts.new) }
 {
-    let edition = match Edition::try_from(edition) {
-        Ok(edition) => edition,
-        Err(refusal) => return refused(refusal),
-    };
+    if let Err(refusal) = Edition::try_from(edition) {
+        return refused(refusal.number());
+    }
     let cells = match prepare(
         rows,
         cols,
@@ -200,10 +199,10 @@ pub fn trace_by_recursion(
         subaccumulation,
     ) {
         Ok(cells) => cells,
-        Err(refusal) => return refused(refusal),
+        Err(refusal) => return refused(refusal.number()),
     };
     if cells > 4096 {
-        return refused(Refusal::TooManyCells);
+        return refused(Refusal::TooManyCells.number());
     }
     let grid = Grid { rows, cols, codes };
     by_recursion(
@@ -237,10 +236,9 @@ pub fn trace_by_stack(
         (lent subaccumulation.old starts.old) work.old
         result (lent subaccumulation.new starts.new) work.new }
 {
-    let edition = match Edition::try_from(edition) {
-        Ok(edition) => edition,
-        Err(refusal) => return refused(refusal),
-    };
+    if let Err(refusal) = Edition::try_from(edition) {
+        return refused(refusal.number());
+    }
     let cells = match prepare(
         rows,
         cols,
@@ -251,10 +249,10 @@ pub fn trace_by_stack(
         subaccumulation,
     ) {
         Ok(cells) => cells,
-        Err(refusal) => return refused(refusal),
+        Err(refusal) => return refused(refusal.number()),
     };
     if work.len() < NUMBERS_EACH * cells as usize {
-        return refused(Refusal::WorkingSpace);
+        return refused(Refusal::WorkingSpace.number());
     }
     let grid = Grid { rows, cols, codes };
     by_stack(

@@ -4,9 +4,7 @@ use Rattle.std.specs.Prelude.{List, ℕ}
 use Rattle.alloutlets.specs.declared.TracedAll.{TracedAll}
 use Rattle.moves.specs.declared.grid.Grid.{Grid}
 use Rattle.moves.specs.Grids.{ground_of}
-use Rattle.notes.specs.declared.Edition.{Edition}
-use Rattle.notes.specs.Notes.{edition_number}
 use Rattle.tracingall.specs.Searching as searching
 
-abbrev pub SearchesAll : Edition → Grid → List ℕ → List ℕ → List ℕ → List ℕ → TracedAll → List ℕ → List ℕ → List ℕ → Type 0
-SearchesAll edition g = searching.SearchesAll (edition_number edition) (ground_of g)
+abbrev pub SearchesAll : ℕ → Grid → List ℕ → List ℕ → List ℕ → List ℕ → TracedAll → List ℕ → List ℕ → List ℕ → Type 0
+SearchesAll edition g = searching.SearchesAll edition (ground_of g)

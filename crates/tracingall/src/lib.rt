@@ -40,7 +40,7 @@ fn most_cells(outlets: &[u32], subaccumulation: &[u32]) -> u32
 // Past 23: all outlets are counted, and listed if there is room for all; then the working numbers are cleared.
 fn search_all(
     filled: FilledGrid,
-    edition: Edition,
+    edition: u32,
     end: usize,
     starts: &mut [u32],
     counts: &mut [u32],
@@ -73,7 +73,7 @@ fn search_all(
 // The same in a grid that holds the subaccumulation, is made ready for the searches by the edition, and comes back as
 // it was.
 fn search_by(
-    edition: Edition,
+    edition: u32,
     grid: Grid,
     outlets: &[u32],
     subaccumulation: &mut [u32],
@@ -139,10 +139,9 @@ pub fn trace_all(
         (lent_all subaccumulation.old starts.old counts.old work.old) result
         (lent_all subaccumulation.new starts.new counts.new work.new) }
 {
-    let edition = match Edition::try_from(edition) {
-        Ok(edition) => edition,
-        Err(refusal) => return refused_all(refusal),
-    };
+    if let Err(refusal) = Edition::try_from(edition) {
+        return refused_all(refusal);
+    }
     if let Err(refusal) = subaccumulate(rows, cols, codes, accumulation, outlets, subaccumulation) {
         return refused_all(refusal);
     }

@@ -5,8 +5,6 @@ use Rattle.cells.specs.declared.Cell.{Cell}
 use Rattle.ground.specs.Compass.{Dir}
 use Rattle.ground.specs.Forest.{Which}
 use Rattle.moves.specs.declared.grid.Grid.{Grid}
-use Rattle.notes.specs.declared.Edition.{Edition}
-use Rattle.notes.specs.Notes.{edition_number}
 use Rattle.upstream.specs.declared.filled.FilledGrid.{FilledGrid}
 use Rattle.upstream.specs.Turns as turns
 use Rattle.upstream.specs.Ready as ready
@@ -26,5 +24,5 @@ abbrev pub cells_at : FilledGrid → Cell → ℕ
 cells_at f cell = ready.cells_at f.grid.rows f.grid.cols f.grid.codes.now f.outlets.now cell.row cell.col
 
 -- at which cells a length is met by an edition, as the words tell
-abbrev pub met_in : Edition → FilledGrid → Which Dir
-met_in edition f = ready.met_in (edition_number edition) f.subaccumulation.now
+abbrev pub met_in : ℕ → FilledGrid → Which Dir
+met_in edition f = ready.met_in edition f.subaccumulation.now

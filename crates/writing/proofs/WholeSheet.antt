@@ -17,7 +17,7 @@ use Rattle.spelling.specs.Content.{Content}
 use Rattle.spelling.specs.Format.{header_record, end_record, row_records, outlet_records, spelling}
 use Rattle.spelling.specs.Writing.{WrittenTold, written_told, write_number, write_answer, write_leaves, Writes}
 use Rattle.spelling.proofs.Sizes.{spelling_length}
-use Rattle.spelling.proofs.Writable.{content_spellable, room}
+use Rattle.spelling.proofs.Writable.{Spellable, content_spellable, room}
 use Rattle.writing.specs.Puts.{Puts}
 use Rattle.writing.proofs.Puts.{puts_then}
 
@@ -29,6 +29,13 @@ pub record Puttable (c : Content) (file : List ℕ) : Type 0 where
   pub has_codes : c.rows * c.cols ≤ length c.codes
   pub fits : 6 + c.rows * (4 + c.cols) + 6 * length c.outlets + 2 ≤ length file
   pub cells : (k : ℕ) → k < length c.outlets → get_or c.outlets k 0 < 65536
+
+-- the longest sheet
+pub spelling_few : {c : Content} → Spellable c → length (spelling c) ≤ 5896
+spelling_few {c} w =
+    let k : 4 + c.cols ≤ 68 = omega (arith, w.grid.cols_small) in
+    let rows : c.rows * (4 + c.cols) ≤ 64 * 68 = mul-le-mul w.grid.rows_small k in
+    omega (arith, rows, w.few, spelling_length c w.grid.has_codes)
 
 module _ (c : Content) (file : List ℕ) where
   pub puttable : write_number c file ≡ 0 → Puttable c file
@@ -74,9 +81,12 @@ module _ (c : Content) (file : List ℕ) where
     number_is = ap (λ (x : WrittenTold). x.number) e ∙ answer_number
 
     -- REFUSED: nothing changes
-    pub nothing_written : ((written_told r).number ≡ 0 → ⊥) → Writes c file r file
+    pub nothing_written : ((written_told r).number ≡ 0 → ⊥) → {new : List ℕ} → new ≡ file → Writes c file r new
     unfolding write_leaves
-    nothing_written f = record { answers = e; leaves = rw (ne_eqb (write_number c file) 0 (λ z. f (number_is ∙ z))) }
+    nothing_written f same = record {
+      answers = e;
+      leaves = rw (ne_eqb (write_number c file) 0 (λ z. f (number_is ∙ z))) same;
+    }
 
     -- ACCEPTED: the spelling is written
     module _ (z : (written_told r).number ≡ 0) where

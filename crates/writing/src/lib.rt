@@ -12,6 +12,7 @@ ghost use Rattle.writing.specs.Puts.{Puts};
 
 use answers::Refusal;
 use cells::split_number;
+use lists::copy;
 use spelling::are_sheet_sides;
 use tables::all_ours;
 
@@ -69,9 +70,8 @@ fn put(file: &mut [u8], at: usize, bytes: &[u8]) -> usize
     requires { at + length bytes.now ≤ length file.old }
     ensures { Puts bytes.now at file.old result file.new }
 {
-    let end = at + bytes.len();
-    file[at..end].copy_from_slice(bytes);
-    end
+    copy(bytes, file, at);
+    at + bytes.len()
 }
 
 // Puts a number, low byte first.
@@ -146,6 +146,7 @@ fn put_sheet(rows: usize, cols: usize, codes: &[u8], outlets: &[u32], file: &mut
 
 // Writes a sheet, and answers with the length of its file in bytes: 2, 3, 5, 8, 7, 23. The content and the room are
 // judged before a byte is written.
+#[tactic(auto, using(crate::proofs::WholeSheet::nothing_written, answers::proofs::Refusals::has_number))]
 pub fn write(
     rows: usize,
     cols: usize,

@@ -34,13 +34,14 @@ returns-in_err-check_grid_in c =
     (refusal.told _ exit.result exit.ensures.1 ∙ c.in_err-check_grid_in.ensures (table_of a.from) source)
     (refusal.not_0 _ exit.result exit.ensures.1)
 
+-- the sizes pass, which is all that the next two ask
 pub overflow_mul-rows : goal.overflow_mul-rows
 overflow_mul-rows c =
     let a = c.args in
     let call = conversion a.from a.to a.rows a.cols a.codes.now in
     let source = c.codes-source.ensures ∙ ap codes_of c.in_ok-try_from.ensures.1 in
-    let passes = c.in_ok-check_grid_in.ensures (table_of a.from) source in
-    omega (arith, fits call a.converted.now c.in_ok-try_from.ensures.0 c.in_ok-try_from-2.ensures.0 passes)
+    let sizes = c.check_grid_in.ensures (table_of a.from) source in
+    omega (arith, fits call a.converted.now c.in_ok-try_from.ensures.0 c.in_ok-try_from-2.ensures.0 sizes (grind arith))
 
 pub rewrite-requires : goal.rewrite-requires
 rewrite-requires c =
@@ -48,8 +49,8 @@ rewrite-requires c =
     let call = conversion a.from a.to a.rows a.cols a.codes.now in
     let source = c.codes-source.ensures ∙ ap codes_of c.in_ok-try_from.ensures.1 in
     let target = c.codes-target.ensures ∙ ap codes_of c.in_ok-try_from-2.ensures.1 in
-    let passes = c.in_ok-check_grid_in.ensures (table_of a.from) source in
-    readable call a.converted.now c.in_ok-try_from.ensures.0 c.in_ok-try_from-2.ensures.0 passes refl source target
+    let is = c.check_grid_in.ensures (table_of a.from) source in
+    readable call a.converted.now c.in_ok-try_from.ensures.0 c.in_ok-try_from-2.ensures.0 is (grind arith) refl source target
 
 pub returns : goal.returns
 returns c =
@@ -57,6 +58,6 @@ returns c =
     let call = conversion a.from a.to a.rows a.cols a.codes.now in
     let source = c.codes-source.ensures ∙ ap codes_of c.in_ok-try_from.ensures.1 in
     let target = c.codes-target.ensures ∙ ap codes_of c.in_ok-try_from-2.ensures.1 in
-    let ok = c.in_ok-check_grid_in in
-    told call a.converted.now c.in_ok-try_from.ensures.0 c.in_ok-try_from-2.ensures.0
-    (ok.ensures (table_of a.from) source) source target c.rewrite.ensures
+    let passes = c.check_grid_in.ensures (table_of a.from) source in
+    told call a.converted.now c.in_ok-try_from.ensures.0 c.in_ok-try_from-2.ensures.0 passes (grind arith) (grind arith) source
+    target c.rewrite.ensures

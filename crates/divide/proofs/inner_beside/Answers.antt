@@ -15,5 +15,5 @@ pub returns : goal.returns
 returns c = let a = c.args in
     beside_any _ _ _ (any_from_yields_List
     (λ k. is_outside a.words.now (neighbour (grid_of a.grid.rows a.grid.cols a.grid.codes.now) (a.cell.row * a.grid.cols + a.cell.col) (dir_at k))) _ _ _
-    c.any.ensures.ran (YieldsList-from_range 0 8 _ refl refl)
+    c.any.ensures.ran (YieldsList-from_range _ _ _ refl refl)
     (λ x b q k. search (rules, tests, beside_word)))

@@ -8,4 +8,5 @@ use Rattle.divide.proofs.is_beside.Goals as goal
 pub returns-then-not-is_inner : goal.returns-then-not-is_inner
 returns-then-not-is_inner c =
     let e = c.if-not-is_inner.true in
-    rw e (off_inner c.requires.on _ (λ i. true≢false (sym (c.is_inner.ensures.1 i) ∙ e)))
+    let h = off_inner c.requires.on c.args.words.now (λ i. true≢false (sym (c.is_inner.ensures.1 i) ∙ e)) in
+    cc

@@ -1,16 +1,13 @@
--- `lists::is_among` meets its contract: `any` answers whether a number after the skipped ones is x.
+-- `lists::is_among` meets its contract. The loop's invariant: what is left from k on decides.
 -- Assumes nothing.
-use Rattle.std.proofs.Common.{rules, nat_eq, ◌∙◌, drop}
-use borrow.Author.Tests.{tests}
-use Rattle.std.proofs.lemmas.Iterator.{YieldsList-from_slice}
-use Rattle.std.proofs.lemmas.Iterator.Adapters.{YieldsList-from_skip}
-use Rattle.std.proofs.lemmas.Iterator.Search.{any_from_yields_List}
-use Rattle.lists.proofs.Members.{any_member}
+use Rattle.lists.proofs.Members.{member_ends, member_found, member_goes_on}
 use Rattle.lists.proofs.is_among.Goals as goal
 
+pub returns-then-list-k : goal.returns-then-list-k
+returns-then-list-k c = member_found _ _ _ _ c.loop-k.invariant c.loop-k-test.true c.if-list-k.true
+
+pub loop-k-preserved : goal.loop-k-preserved
+loop-k-preserved c = member_goes_on _ _ _ _ c.loop-k.invariant c.loop-k-test.true c.if-list-k.false
+
 pub returns : goal.returns
-returns c =
-    let s = c.args in
-    any_from_yields_List (λ y. nat_eq y s.x) _ _ _ c.any.ensures.ran
-    (YieldsList-from_skip s.from (YieldsList-from_slice s.list.now cc) cc) (λ x b q k. search (rules, tests))
-    ∙ any_member s.x (drop s.from s.list.now)
+returns c = member_ends _ _ _ _ c.loop-k.invariant c.loop-k-test.false

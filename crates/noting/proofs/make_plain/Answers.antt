@@ -1,20 +1,13 @@
 -- `noting::make_plain` meets its contract.
 -- Assumes nothing.
-use mathlib.Core.Path.{◌≡◌, sym, ◌∙◌}
-use mathlib.Core.Bool.{true, false}
-use lib.Dec.{eqb}
+use borrow.Author.Tests.{eq-eqb, ne_eqb}
 use Rattle.lists.proofs.Kept.{kept_all}
-use Rattle.notes.specs.Notes.{edition_number}
-use Rattle.notes.proofs.Notes.{is_second}
 use Rattle.noting.proofs.make_plain.Goals as goal
 
-pub returns-then-eq : goal.returns-then-eq
-returns-then-eq c =
+pub returns-then-edition-eq2 : goal.returns-then-edition-eq2
+returns-then-edition-eq2 c =
     let d = c.clear_notes.ensures in
-    let e : eqb (edition_number c.args.edition) 2 ≡ true = is_second c.args.edition ∙ sym c.if-eq.ensures in
-    record { kept = d.kept; words = λ x h. rw e (d.words x h) }
+    record { kept = d.kept; words = λ x h. rw (eq-eqb _ _ c.if-edition-eq2.true) (d.words x h) }
 
-pub returns-else-eq : goal.returns-else-eq
-returns-else-eq c =
-    let e : eqb (edition_number c.args.edition) 2 ≡ false = is_second c.args.edition ∙ sym c.if-eq.ensures in
-    record { kept = kept_all; words = λ x h. rw e }
+pub returns-else-edition-eq2 : goal.returns-else-edition-eq2
+returns-else-edition-eq2 c = record { kept = kept_all; words = λ x h. rw (ne_eqb _ _ c.if-edition-eq2.false) }

@@ -1,12 +1,11 @@
 -- `noting::make_ready` meets its contract: the outlets are noted, then one divide after the other.
 -- Assumes nothing.
-use mathlib.Core.Path.{◌≡◌, sym, ap, ◌∙◌, subst}
-use mathlib.Core.Bool.{not}
+use mathlib.Core.Path.{◌≡◌, ◌∙◌, subst}
 use Prim.Native.Nat.{ℕ}
 use native.Mathlib.Omega.{arith}
 use lib.ListN.{length}
+use borrow.Author.Tests.{eq-eqb, ne_eqb}
 use Rattle.lists.proofs.Kept.{kept_all, kept_then}
-use Rattle.notes.proofs.Notes.{not_first}
 use Rattle.noting.proofs.Readying.{Marked, ListKept, list_next, few, outlets_within, ready_plain, marked_begin}
 use Rattle.noting.proofs.Readying.{can_note, marked_next, ready_marked}
 use Rattle.noting.proofs.make_ready.Goals as goal
@@ -44,9 +43,9 @@ shape_of-list c =
     (c.loop-j.invariant.2 (length c.args.list.now)
     (λ j a b. c.requires.places.room j a (omega arith))).same_length
 
-pub returns-then-eq : goal.returns-then-eq
-returns-then-eq c =
-    ready_plain c.requires.fresh (not_first c.args.edition ∙ ap not (sym c.if-eq.ensures)) c.requires.places.in_list
+pub returns-then-edition-ne2 : goal.returns-then-edition-ne2
+returns-then-edition-ne2 c =
+    ready_plain c.requires.fresh (ne_eqb _ _ c.if-edition-ne2.true) c.requires.places.in_list
 
 pub note_enclosed-requires : goal.note_enclosed-requires
 note_enclosed-requires c =
@@ -65,7 +64,7 @@ returns c =
     let e : c.loop-j.j ≡ a.end = omega arith in
     ready_marked c.requires.fresh a.first c.requires.places.in_list
     (subst (λ (k : ℕ). Marked a.grid.rows a.grid.cols a.grid.codes.now a.outlets.now a.first k c.loop-j.subaccumulation)
-    e i.0) (not_first c.args.edition ∙ ap not (sym c.if-eq.ensures))
+    e i.0) (eq-eqb _ _ c.if-edition-ne2.false)
     (kept_then c.note_outlets.ensures.kept i.1)
     (subst (λ (k : ℕ). ListKept a.grid.rows a.grid.cols a.grid.codes.now a.outlets.now a.first k a.list.now
     c.loop-j.list) e i.2)

@@ -6,7 +6,6 @@ use native.Mathlib.Omega.{arith}
 use lib.ListN.{length, get_or}
 use Rattle.lists.proofs.Kept.{kept_all}
 use Rattle.ground.specs.Grid.{grid_of}
-use Rattle.notes.specs.Notes.{edition_number}
 use Rattle.alloutlets.proofs.AllOutlets.{starts_to, long_starts}
 use Rattle.passes.proofs.Counting.{searchable_at, kept_search}
 use Rattle.passes.proofs.Listing.{listing_none, listing_more, within}
@@ -16,7 +15,7 @@ use Rattle.passes.proofs.list_all.Goals as goal
 pub loop-j-init : goal.loop-j-init
 loop-j-init c =
     let a = c.args in
-    (listing_none (edition_number a.edition) (grid_of a.filled.grid.rows a.filled.grid.cols a.filled.grid.codes.now) a.filled.outlets.now, kept_all)
+    (listing_none a.edition (grid_of a.filled.grid.rows a.filled.grid.cols a.filled.grid.codes.now) a.filled.outlets.now, kept_all)
 
 pub list_at-p-requires : goal.list_at-p-requires
 list_at-p-requires c =
@@ -28,7 +27,7 @@ overflow_add-total c =
     let a = c.args in
     omega (
       arith,
-      fits_all (edition_number a.edition) (grid_of a.filled.grid.rows a.filled.grid.cols a.filled.grid.codes.now) a.filled.outlets.now (omega arith)
+      fits_all a.edition (grid_of a.filled.grid.rows a.filled.grid.cols a.filled.grid.codes.now) a.filled.outlets.now (omega arith)
           c.requires.outlets_in_bounds.0
           c.loop-j.invariant.0,
       c.list_at-p.ensures.counted.count,
@@ -40,7 +39,7 @@ loop-j-preserved c =
     let l = c.loop-j in
     let a = c.args in
     let g = grid_of a.filled.grid.rows a.filled.grid.cols a.filled.grid.codes.now in
-    let e = edition_number a.edition in
+    let e = a.edition in
     let cs = starts_to e g a.filled.outlets.now (get_or a.filled.outlets.now l.j 0) in
     let h : l.j < length a.filled.outlets.now = omega arith in
     let r = c.list_at-p.ensures in
@@ -71,7 +70,7 @@ returns c =
     let l = c.loop-j in
     let a = c.args in
     let g = grid_of a.filled.grid.rows a.filled.grid.cols a.filled.grid.codes.now in
-    let e = edition_number a.edition in
+    let e = a.edition in
     let h = c.loop-j-test.false in
     record {
       lists = all_listed e g a.filled.outlets.now h l.invariant.0 c.requires.outlets_in_bounds.0;

@@ -6,11 +6,12 @@ use Prim.Native.Nat.{ℕ}
 use native.Mathlib.Omega.{arith}
 use lib.ListN.{length}
 use Rattle.std.specs.Prelude.{Ok}
+use Rattle.std.proofs.lemmas.Grind.{common_steps}
 use Rattle.std.proofs.lemmas.Result.{err_from_is_err_and}
 use Rattle.answers.proofs.Refusals.{has_number}
 use Rattle.spelling.specs.declared.Sheet.{Sheet}
 use Rattle.spelling.specs.Reading.{sheet_told, read_answer}
-use Rattle.reading.proofs.Stored.{nothing_stored, Storable, storable}
+use Rattle.reading.proofs.Stored.{nothing_stored, Storable, storable, reads_as}
 use Rattle.reading.proofs.read.Goals as goal
 
 accepted : (file grid list : List ℕ) (s : Sheet) → sheet_told (Ok s) ≡ read_answer file (length grid) (length list)
@@ -22,34 +23,36 @@ returns-in_err-sheet c =
     let a = c.args in
     let p = err_from_is_err_and c.from_residual.result c.from_residual.ensures.1 in
     rw (p.1, p.2)
-    (nothing_stored a.file.now a.codes.now a.outlets.now _ c.in_err-sheet.ensures (has_number c.in_err-sheet.field-0.0))
+    (reads_as (grind (arith, common_steps)) (grind (arith, common_steps))
+    (nothing_stored a.file.now _ _ _ c.in_err-sheet.ensures (has_number c.in_err-sheet.field-0.0)))
 
 pub overflow_mul-tail : goal.overflow_mul-tail
 overflow_mul-tail c =
     let a = c.args in
-    let s = accepted a.file.now a.codes.now a.outlets.now c.in_ok-sheet.sheet c.in_ok-sheet.ensures in
+    let s = accepted a.file.now _ _ c.in_ok-sheet.sheet c.in_ok-sheet.ensures in
     omega (arith, s.few_bytes)
 
 pub overflow_add-tail-2 : goal.overflow_add-tail-2
 overflow_add-tail-2 c =
     let a = c.args in
-    let s = accepted a.file.now a.codes.now a.outlets.now c.in_ok-sheet.sheet c.in_ok-sheet.ensures in
+    let s = accepted a.file.now _ _ c.in_ok-sheet.sheet c.in_ok-sheet.ensures in
     omega (arith, s.few_bytes)
 
 pub store_codes-requires : goal.store_codes-requires
 store_codes-requires c =
     let a = c.args in
-    let s = accepted a.file.now a.codes.now a.outlets.now c.in_ok-sheet.sheet c.in_ok-sheet.ensures in
-    (s.rows_fit, s.has_grid)
+    let s = accepted a.file.now _ _ c.in_ok-sheet.sheet c.in_ok-sheet.ensures in
+    (omega (arith, s.rows_fit), omega (arith, s.has_grid))
 
 pub store_outlets-requires : goal.store_outlets-requires
 store_outlets-requires c =
     let a = c.args in
-    let s = accepted a.file.now a.codes.now a.outlets.now c.in_ok-sheet.sheet c.in_ok-sheet.ensures in
-    (s.outlets_fit, s.has_list, s.cols_small)
+    let s = accepted a.file.now _ _ c.in_ok-sheet.sheet c.in_ok-sheet.ensures in
+    (omega (arith, s.outlets_fit), omega (arith, s.has_list), s.cols_small)
 
 pub returns : goal.returns
 returns c =
     let a = c.args in
-    let s = accepted a.file.now a.codes.now a.outlets.now c.in_ok-sheet.sheet c.in_ok-sheet.ensures in
-    s.stored _ _ c.store_codes.ensures c.store_outlets.ensures
+    let s = accepted a.file.now _ _ c.in_ok-sheet.sheet c.in_ok-sheet.ensures in
+    reads_as (grind (arith, common_steps)) (grind (arith, common_steps))
+    (s.stored _ _ c.store_codes.ensures c.store_outlets.ensures)

@@ -7,7 +7,6 @@ use native.Mathlib.Numerals.{add-one}
 use native.Mathlib.Omega.{arith}
 use lib.ListN.{length}
 use Rattle.spelling.proofs.Sizes.{next_fits}
-use Rattle.spelling.proofs.Parts.{part_stored}
 use Rattle.reading.proofs.Steps.{part_length}
 use Rattle.reading.proofs.Stores.{codes_next, codes_stored}
 use Rattle.reading.proofs.store_codes.Goals as goal
@@ -20,24 +19,27 @@ fits at row rows cols n t e h = omega (arith, next_fits row rows (4 + cols) t, e
 room : (row rows cols n : ℕ) → row < rows → rows * cols ≤ n → row * cols + cols ≤ n
 room row rows cols n t h = omega (arith, next_fits row rows cols t, h)
 
+pub copy-requires : goal.copy-requires
+copy-requires c =
+    let a = c.args in
+    let l = c.loop-row in
+    let f = fits l.at l.row a.rows a.cols (length a.file.now) c.loop-row-test.true l.invariant.0 c.requires.0 in
+    omega (
+      arith,
+      room l.row a.rows a.cols (length a.codes.now) c.loop-row-test.true c.requires.1,
+      part_length a.file.now a.cols l.at f,
+    )
+
 pub loop-row-preserved : goal.loop-row-preserved
 loop-row-preserved c =
     let a = c.args in
     let l = c.loop-row in
     let f = fits l.at l.row a.rows a.cols (length a.file.now) c.loop-row-test.true l.invariant.0 c.requires.0 in
-    let r = room l.row a.rows a.cols (length a.codes.now) c.loop-row-test.true c.requires.1 in
     let n : a.rows - (l.row + 1) ≡ a.rows - l.row - 1 = omega arith in
-    let k : l.row * a.cols + a.cols - l.row * a.cols ≡ a.cols = omega arith in
     let m : (l.row + 1) * a.cols ≡ l.row * a.cols + a.cols =
     rw (add-one l.row) (suc-mul l.row a.cols) in (
       rw (add-one l.row, suc-mul l.row (4 + a.cols)) (omega (arith, l.invariant.0)),
-      rw (
-        c.copy_from_slice.ensures.after,
-        n,
-        m,
-        k,
-        part_stored (l.row * a.cols) a.cols l.codes _ (omega (arith, r)) (part_length a.file.now a.cols l.at f),
-      )
+      rw (c.copy.ensures, n, m)
           (l.invariant.1 ∙ codes_next l.codes a.file.now a.cols (l.row * a.cols) l.at (a.rows - l.row) (omega arith) f),
     )
 

@@ -3,7 +3,6 @@
 use mathlib.Core.Path.{sym, subst}
 use Prim.Native.Nat.{◌+◌}
 use native.Mathlib.Omega.{arith}
-use Rattle.notes.specs.Notes.{edition_number}
 use Rattle.upstream.specs.Ready.{met_in}
 use Rattle.recursion.specs.Tracing.{InflowsReady, InflowsTraced}
 use Rattle.recursion.proofs.Cell.{cells_read, has_room, inflows_ready, cell_traced}
@@ -34,13 +33,13 @@ pub trace_inflows-returns-in_default : goal.trace_inflows-returns-in_default
 trace_inflows-returns-in_default t c =
     let a = c.args in
     let r = c.requires in
-    inflows_done r.ready (met_in (edition_number a.edition) a.filled.now.subaccumulation.now) a.dropping r.inflows_ready c.in_default.ensures
+    inflows_done r.ready (met_in a.edition a.filled.now.subaccumulation.now) a.dropping r.inflows_ready c.in_default.ensures
 
 pub trace_inflows-is_dropped-requires : goal.trace_inflows-is_dropped-requires
 trace_inflows-is_dropped-requires t c =
     let a = c.args in
     let r = c.requires in
-    let h = testable r.ready (met_in (edition_number a.edition) a.filled.now.subaccumulation.now) a.dropping r.inflows_ready
+    let h = testable r.ready (met_in a.edition a.filled.now.subaccumulation.now) a.dropping r.inflows_ready
     c.in-Some.ensures c.plus-longer.ensures in
     (omega (arith, h), omega (arith, h), omega (arith, h))
 
@@ -50,7 +49,7 @@ trace_inflows-drop_cells-q-requires t c =
     let r = c.requires in
     omega (
       arith,
-      small_cells r.ready (met_in (edition_number a.edition) a.filled.now.subaccumulation.now) a.dropping r.inflows_ready
+      small_cells r.ready (met_in a.edition a.filled.now.subaccumulation.now) a.dropping r.inflows_ready
           c.in-Some.ensures,
     )
 
@@ -64,7 +63,7 @@ trace_inflows-trace_inflows-requires t c =
         r.ready,
         subst (λ q. InflowsReady a.filled.now.grid.rows a.filled.now.grid.cols a.filled.now.grid.codes.now a.filled.now.outlets.now a.cell.row a.cell.col a.len (n.t.k + 1) q
             a.found.now) (sym c.drop_cells-q.ensures)
-            (drop_ready r.ready (met_in (edition_number a.edition) a.filled.now.subaccumulation.now) a.dropping r.inflows_ready n.ensures c.plus-longer.ensures c.is_dropped.ensures),
+            (drop_ready r.ready (met_in a.edition a.filled.now.subaccumulation.now) a.dropping r.inflows_ready n.ensures c.plus-longer.ensures c.is_dropped.ensures),
       ),
     )
 
@@ -74,7 +73,7 @@ trace_inflows-returns-then-is_dropped t c =
     let r = c.requires in
     let n = c.in-Some in
     let i = c.trace_inflows in
-    let met = met_in (edition_number a.edition) a.filled.now.subaccumulation.now in
+    let met = met_in a.edition a.filled.now.subaccumulation.now in
     drop_traced r.ready met a.dropping r.inflows_ready n.ensures c.plus-longer.ensures
     c.is_dropped.ensures c.if-is_dropped.true i.result i.new.found
     (subst (λ q. InflowsTraced a.filled.now.grid.rows a.filled.now.grid.cols a.filled.now.grid.codes.now a.filled.now.outlets.now met a.dropping a.cell.row a.cell.col a.len
@@ -86,7 +85,7 @@ trace_inflows-trace_cell-q-requires t c =
     let ready = c.requires.ready in
     let here = c.requires.inflows_ready in
     let n = c.in-Some in
-    let met = met_in (edition_number a.edition) a.filled.now.subaccumulation.now in (
+    let met = met_in a.edition a.filled.now.subaccumulation.now in (
       omega (
         arith,
         c.decreases,
@@ -109,7 +108,7 @@ trace_inflows-trace_inflows-requires-2 t c =
       omega (arith, c.decreases, n.ensures.from, n.ensures.last),
       (
         r.ready,
-        rest_ready r.ready (met_in (edition_number a.edition) a.filled.now.subaccumulation.now) a.dropping r.inflows_ready n.ensures c.plus-longer.ensures c.is_dropped.ensures c.if-is_dropped.false
+        rest_ready r.ready (met_in a.edition a.filled.now.subaccumulation.now) a.dropping r.inflows_ready n.ensures c.plus-longer.ensures c.is_dropped.ensures c.if-is_dropped.false
             c.trace_cell-q.ensures,
       ),
     )
@@ -119,5 +118,5 @@ trace_inflows-returns t c =
     let a = c.args in
     let r = c.requires in
     let i = c.trace_inflows-2 in
-    rest_traced r.ready (met_in (edition_number a.edition) a.filled.now.subaccumulation.now) a.dropping r.inflows_ready c.in-Some.ensures c.plus-longer.ensures c.is_dropped.ensures c.if-is_dropped.false c.trace_cell-q.ensures
+    rest_traced r.ready (met_in a.edition a.filled.now.subaccumulation.now) a.dropping r.inflows_ready c.in-Some.ensures c.plus-longer.ensures c.is_dropped.ensures c.if-is_dropped.false c.trace_cell-q.ensures
     i.result i.new.found i.ensures

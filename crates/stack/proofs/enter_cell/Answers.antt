@@ -2,7 +2,6 @@
 -- Assumes nothing.
 use mathlib.Core.Path.{sym, ◌∙◌, subst}
 use native.Mathlib.Omega.{arith}
-use Rattle.notes.specs.Notes.{edition_number}
 use Rattle.stack.specs.Pending.{PutOn}
 use Rattle.stack.proofs.Putting.{put_none}
 use Rattle.stack.proofs.Climbing.{read, none_above}
@@ -13,12 +12,12 @@ pub returns-then-n-eq1 : goal.returns-then-n-eq1
 returns-then-n-eq1 c =
     let a = c.args in
     let p = c.requires in
-    entered c.requires.ready p.on_ground p.fits (edition_number a.edition)
-    (rw c.is_met.ensures at c.visit-progress.ensures)
-    (subst (λ ws. PutOn ws a.top c.visit-progress.new.work a.top c.visit-progress.new.work)
+    entered c.requires.ready p.on_ground p.fits a.edition
+    (rw c.is_met-met.ensures at c.visit.ensures)
+    (subst (λ ws. PutOn ws a.top c.visit.new.work a.top c.visit.new.work)
     (sym (none_above c.requires.ready p.on_ground a.len
     (sym (c.cells_held-n.ensures ∙ read c.requires.ready p.on_ground) ∙ c.if-n-eq1.true)))
-    (put_none c.visit-progress.new.work a.top))
+    (put_none c.visit.new.work a.top))
 
 pub visit-progress-requires : goal.visit-progress-requires
 visit-progress-requires c = room c.requires.ready c.requires.on_ground c.requires.fits
@@ -39,5 +38,5 @@ climb-higher-requires c =
 pub returns : goal.returns
 returns c =
     let p = c.requires in
-    entered c.requires.ready p.on_ground p.fits (edition_number c.args.edition) (rw c.is_met.ensures at c.visit-progress.ensures)
+    entered c.requires.ready p.on_ground p.fits c.args.edition (rw c.is_met-met.ensures at c.visit-progress.ensures)
     c.climb-higher.ensures

@@ -1,7 +1,6 @@
 -- `stack::enter_outlet` meets its contract.
 -- Assumes nothing.
 use native.Mathlib.Omega.{arith}
-use Rattle.notes.specs.Notes.{edition_number}
 use Rattle.stack.proofs.Climbing.{on_cell, few_above}
 use Rattle.stack.proofs.Entering.{room, entered}
 use Rattle.stack.proofs.enter_outlet.Goals as goal
@@ -28,5 +27,5 @@ put_inflows-higher-requires c =
 pub returns : goal.returns
 returns c =
     let p = c.requires in
-    entered c.requires.ready p.on_ground p.fits (edition_number c.args.edition) (rw c.is_met-met.ensures at c.visit-progress.ensures)
+    entered c.requires.ready p.on_ground p.fits c.args.edition (rw c.is_met-met.ensures at c.visit-progress.ensures)
     c.put_inflows-higher.ensures

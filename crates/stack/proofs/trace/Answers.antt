@@ -7,7 +7,7 @@ use native.Mathlib.Omega.{arith}
 use lib.ListN.{get_or}
 use Rattle.ground.specs.Grid.{grid_of}
 use Rattle.ground.specs.Accumulation.{subaccumulation}
-use Rattle.notes.specs.Notes.{cells_held, edition_number}
+use Rattle.notes.specs.Notes.{cells_held}
 use Rattle.upstream.specs.Ready.{Ready, OnGround, met_in}
 use Rattle.stack.proofs.Climbing.{read, small_cells}
 use Rattle.stack.proofs.Turning.{drains_on, outlet_fits, outlet_stands, outlet_drains, traced}
@@ -67,7 +67,7 @@ returns c =
     let i = end_is c.requires.ready p.on_ground c.cells_held.ensures in
     let l = c.loop-s in
     let e = c.enter_outlet-s in
-    traced c.requires.ready p.on_ground i (met_in (edition_number a.edition) a.filled.subaccumulation.now) a.dropping a.work.now
+    traced c.requires.ready p.on_ground i (met_in a.edition a.filled.subaccumulation.now) a.dropping a.work.now
     l.invariant.1 (omega arith)
     (l.invariant.2
     ∙ outlet_drains c.requires.ready p.on_ground i c.begin.ensures c.none.ensures e.ensures a.dropping)

@@ -4,7 +4,6 @@ use mathlib.Core.Path.{◌≡◌}
 use Prim.Native.Nat.{ℕ, ◌≤◌}
 use lib.ListN.{length, get_or}
 use Rattle.ground.specs.Grid.{grid_of}
-use Rattle.notes.specs.Notes.{edition_number}
 use Rattle.progress.specs.Starts.{state_of}
 use Rattle.upstream.specs.Ready.{met_in}
 use Rattle.stack.specs.Pending.{pending}
@@ -15,9 +14,9 @@ abbrev pub invariant-loop-s : goal.invariant-loop-s
 invariant-loop-s l =
     (length l.work ≡ length l.initial.work)
     × Standing (grid_of l.filled.grid.rows l.filled.grid.cols l.filled.grid.codes.now) l.filled.outlets.now l.end l.s l.work
-    × (drain (grid_of l.filled.grid.rows l.filled.grid.cols l.filled.grid.codes.now) l.filled.outlets.now (met_in (edition_number l.edition) l.filled.subaccumulation.now) l.dropping
+    × (drain (grid_of l.filled.grid.rows l.filled.grid.cols l.filled.grid.codes.now) l.filled.outlets.now (met_in l.edition l.filled.subaccumulation.now) l.dropping
     (pending l.work l.s.top) (state_of l.s.progress l.work l.end)
-    ≡ drain (grid_of l.filled.grid.rows l.filled.grid.cols l.filled.grid.codes.now) l.filled.outlets.now (met_in (edition_number l.edition) l.filled.subaccumulation.now) l.dropping
+    ≡ drain (grid_of l.filled.grid.rows l.filled.grid.cols l.filled.grid.codes.now) l.filled.outlets.now (met_in l.edition l.filled.subaccumulation.now) l.dropping
     (pending l.initial.work l.initial.s.top) (state_of l.initial.s.progress l.initial.work l.end))
     × ((i : ℕ) → l.end ≤ i → get_or l.work i 0 ≡ get_or l.initial.work i 0)
 

@@ -2,7 +2,6 @@
 -- Assumes nothing.
 use mathlib.Core.Path.{◌∙◌}
 use native.Mathlib.Omega.{arith}
-use Rattle.notes.specs.Notes.{edition_number}
 use Rattle.upstream.specs.Ready.{met_in}
 use Rattle.stack.proofs.Climbing.{indexed, read}
 use Rattle.stack.proofs.Turning.{pending_room, on_ground, testable, few_dropped, fits, turn_dropped}
@@ -39,7 +38,7 @@ returns-then-is_dropped c =
     let p = c.requires.ready in
     let s = c.requires.stack_stands in
     let e = c.pending_at-w.ensures in
-    turn_dropped p s.0 s.1 e (met_in (edition_number a.edition) a.filled.subaccumulation.now) a.dropping
+    turn_dropped p s.0 s.1 e (met_in a.edition a.filled.subaccumulation.now) a.dropping
     (c.cells_held-n.ensures ∙ read p (on_ground p s.0 s.1 e))
     c.is_dropped.ensures c.if-is_dropped.true c.drop_cells.ensures
 
@@ -56,6 +55,6 @@ returns c =
     let p = c.requires.ready in
     let s = c.requires.stack_stands in
     let e = c.pending_at-w.ensures in
-    turn_entered p s.0 s.1 e (met_in (edition_number a.edition) a.filled.subaccumulation.now) a.dropping
+    turn_entered p s.0 s.1 e (met_in a.edition a.filled.subaccumulation.now) a.dropping
     (c.cells_held-n.ensures ∙ read p (on_ground p s.0 s.1 e))
     c.is_dropped.ensures c.if-is_dropped.false c.enter_cell.ensures c.enter_cell.auto.work

@@ -5,7 +5,6 @@ use mathlib.Core.List.{List}
 use Prim.Native.Nat.{ℕ}
 use native.Mathlib.Omega.{arith}
 use Rattle.lists.specs.Slices.{overlaid}
-use Rattle.notes.specs.Notes.{edition_number}
 use Rattle.noting.proofs.Readying.{few, restored}
 use Rattle.tracing.proofs.Searching.{at_outlet, cells_there, searched_there, counted, starts_are}
 use Rattle.tracing.proofs.Searching.{answers_counted}
@@ -46,8 +45,8 @@ returns c =
     c.trace-p.ensures.searched) in
     let r = c.make_ready.ensures in
     let told = own_met a.grid.rows a.grid.cols a.grid.codes.now a.outlets.now a.place r in record {
-      lists = answers_counted (counted r.ready c.requires.chosen (edition_number a.edition) told q) c.answer_for.ensures
+      lists = answers_counted (counted r.ready c.requires.chosen a.edition told q) c.answer_for.ensures
           (c.list_starts.ensures ∙ ap (λ (cs : List ℕ). overlaid cs a.starts.now)
-          (starts_are r.ready c.requires.chosen (edition_number a.edition) told q));
+          (starts_are r.ready c.requires.chosen a.edition told q));
       subaccumulation_unchanged = restored c.requires.fresh r c.make_plain.ensures;
     }

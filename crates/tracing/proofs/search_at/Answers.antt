@@ -1,7 +1,6 @@
 -- `tracing::search_at` meets its contract.
 -- Assumes nothing.
 use native.Mathlib.Omega.{arith}
-use Rattle.notes.specs.Notes.{edition_number}
 use Rattle.tracing.proofs.Searching.{at_outlet, cells_there, searched_within, counted, starts_are}
 use Rattle.tracing.proofs.search_at.Goals as goal
 
@@ -14,8 +13,8 @@ returns c =
     let e = c.split_number-cell.ensures in
     let q = searched_within c.requires.ready c.requires.chosen.0 e c.trace.ensures.searched in
     record {
-      counted = counted c.requires.ready c.requires.chosen.0 (edition_number c.args.edition) c.requires.chosen.1 q;
-      starts = starts_are c.requires.ready c.requires.chosen.0 (edition_number c.args.edition) c.requires.chosen.1 q;
+      counted = counted c.requires.ready c.requires.chosen.0 c.args.edition c.requires.chosen.1 q;
+      starts = starts_are c.requires.ready c.requires.chosen.0 c.args.edition c.requires.chosen.1 q;
       all_cells = q.all_cells;
       few_paths = q.few_paths;
       only = record {
